@@ -236,7 +236,7 @@ def read(folder):
     # the body of the call, past its contract
     version = re.search(r"fn probe_version\(\) -> u32.*?\{\s*(\d+)\s*\}", plain, re.S)
     numbers = r"^pub const (?!VERSION)(\w+): u32 = (\d+);"
-    refusals = constants(re.sub(r"//.*", "", text[REFUSALS]), numbers)
+    refusals = {snake(name): int(number) for name, number in re.findall(r"Refusal::(\w+) => (\d+),", re.sub(r"//.*", "", text[REFUSALS]))}
     structs = rust_structs(re.sub(r"//.*", "", "\n".join(text[path] for path in STRUCTS)))
     codes = constants(plain, numbers)
     lengths = re.findall(r"fn (\w+)_length\((?:n|nodes): usize\) -> usize \{([^}]*)\}", text[LENGTHS])
@@ -410,7 +410,7 @@ FAULTS = [
     (RATTLE + "/meshes.rt", "fn probe_query(", "fn probe_list("),
     (RATTLE + "/meshes.rt", "#[unsafe(no_mangle)]\n", ""),
     (CODES, "pub const NO: u32 = 259;", "pub const NO: u32 = 258;"),
-    (REFUSALS, "pub const WRONG_POSE: u32 = 4;", "pub const WRONG_POSE: u32 = 9;"),
+    (REFUSALS, "Refusal::WrongPose => 4,", "Refusal::WrongPose => 9,"),
     (AREAS, "| 12n ", "| 10n "),
     (HEADER, "const probe_part *parts,", "probe_part *parts,"),
     (HEADER, "    size_t nodes;\n    probe_span vertices;", "    probe_span vertices;\n    size_t nodes;"),
@@ -423,9 +423,9 @@ FAULTS = [
     (RUST, "#[repr(C)]\n#[derive(Clone, Copy, Debug, Default, PartialEq)]\npub struct Part", "pub struct Part"),
     (STRUCTS[0], "    pub node_boxes: Span,\n    pub triangle_boxes: Span,", "    pub triangle_boxes: Span,\n    pub node_boxes: Span,"),
     (STRUCTS[1], "#[repr(C)]\n", ""),
-    (REFUSALS, "pub const LIMIT_REACHED: u32 = 10;", "pub const LIMIT_REACHED: u32 = 11;"),
-    (REFUSALS, "pub const OUT_OF_RANGE: u32 = 12;", "pub const OUT_OF_RANGE: u32 = 13;"),
-    (REFUSALS, "pub const NOT_REPRESENTABLE: u32 = 11;", "pub const NOT_REPRESENTABLE: u32 = 10;"),
+    (REFUSALS, "Refusal::LimitReached => 10,", "Refusal::LimitReached => 11,"),
+    (REFUSALS, "Refusal::OutOfRange => 12,", "Refusal::OutOfRange => 13,"),
+    (REFUSALS, "Refusal::NotRepresentable => 11,", "Refusal::NotRepresentable => 10,"),
     (HEADER, "    const uint8_t *bytes,", "    const uint32_t *bytes,"),
     (RUST, "        out: *mut u8,", "        out: *const u8,"),
     (HEADER, "    uint32_t *codes,", "    double *codes,"),

@@ -3,7 +3,8 @@
 
 usage: tools/lines.py [--self-test]
 
-- No line of a .antt or .rt file under crates/ is longer than 140 characters.
+- No line of a .antt or .rt file under crates/ is longer than 140 characters, but for an attribute of the prover, which `rt fmt` lays out
+  on one line.
 - No proof counts its way back by a chain of `.before`: one step back reads as the source does, and a place further off is named by its type.
 - A file of specs/ whose first line says 'Inner contracts only' is for the proofs of its crate: no other file of specs/ may use it, nor the
   contract of a call for C, so that what a reader has to believe stands apart.
@@ -29,7 +30,7 @@ def used(text):
 
 
 def long_lines(name, lines):
-    return [f"{name}:{number}: {len(line)} characters" for number, line in enumerate(lines, 1) if len(line) > LONGEST]
+    return [f"{name}:{number}: {len(line)} characters" for number, line in enumerate(lines, 1) if len(line) > LONGEST and not line.lstrip().startswith("#[tactic(")]
 
 
 def faults_of(root):
@@ -86,6 +87,7 @@ SOUND = {
     "a/specs/J.antt": "-- Inner contracts only: steps.\nuse Rattle.a.specs.I.{step}",
     "a/specs/D.antt": "-- D.\nuse Rattle.a.specs.E.{whole}",
     "a/proofs/P.antt": "-- " + "x" * 137 + "\nf c = c.before.args",
+    "a/src/c.rt": "#[tactic(auto, using(" + "x" * 120 + "))]",
     "a/src/b.rt": "// The first.\nghost use Rattle.a.specs.I.{step};\nfn first(xs: &[u8]) -> u8\n    requires { 1 ≤ length xs.now }\n{",
 }
 

@@ -1,4 +1,4 @@
--- What else a caller may want of `rootOf`: it fits its format, is above zero where its argument is, and grows with its argument. Assumes
+-- What else a caller may want of `root_of`: it fits its format, is above zero where its argument is, and grows with its argument. Assumes
 -- nothing.
 use Rattle.std.proofs.Common.{◌≡◌, ℕ, zero, suc, ◌+◌, ◌*◌, ◌^◌, ◌<◌, ◌≤◌, Bool, true, false, ◌&&◌, ◌||◌, T, eqb, ltb, leb, ℤ, sym, refl, ap}
 use Rattle.std.proofs.Common.{◌∙◌, subst, lt_of_lt_of_le, lt_irrefl, mul-le-mul_right, zero-lt-suc, mul_assoc, mul_comm, add_comm}

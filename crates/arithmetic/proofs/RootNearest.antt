@@ -1,4 +1,4 @@
--- `rootOf x` is the float nearest to the exact root of x: of the floats that are not negative, each other one lies farther from it.
+-- `root_of x` is the float nearest to the exact root of x: of the floats that are not negative, each other one lies farther from it.
 -- A float y is farther from the root of x than r is if the root lies on r's side of the middle of r and y, as 4 * x and (r + y)² say, in
 -- exact fractions. Assumes nothing.
 use Rattle.std.proofs.Common.{◌≡◌, ℕ, zero, suc, ◌+◌, ◌*◌, ◌^◌, ◌<◌, ◌≤◌, false, T, sym, refl, ap, ◌∙◌, subst, inl, inr, zero-le, le_trans}

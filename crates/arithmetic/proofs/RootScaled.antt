@@ -1,5 +1,5 @@
 -- The root of a float whose value is N * 4 ^ k in units of 2 ^ -2148, N having 105 or 106 digits: by the whole number r nearest to N's
--- root, `rootOf` is r * 2 ^ k
+-- root, `root_of` is r * 2 ^ k
 -- units of 2 ^ -1074, whose bit pattern is k * 2 ^ 52 + r. Assumes nothing.
 use Rattle.std.proofs.Common.{◌≡◌, ℕ, zero, suc, ◌+◌, ◌-◌, ◌*◌, ◌/◌, ◌%◌, ◌^◌, ◌<◌, ◌≤◌, Bool, true, false, cond, not, T, ℤ, sym, refl, ap}
 use Rattle.std.proofs.Common.{◌∙◌, subst, true≢false, le_trans, le_of_eq, lt_of_lt_of_le, le_of_lt, lt_irrefl, mul-le-mul_right, mul_assoc}
@@ -33,7 +33,7 @@ dropped n k lo hi =
     (size_above (n * p) (104 + (k + k)) (le_trans (le_of_eq (pow_twice 104 k)) (mul-le-mul_right p lo)))
     (size-le (n * p) (106 + (k + k)) (lt_of_lt_of_le (mul-lt-mul_of_pos_right hi P) (le_of_eq (sym (pow_twice 106 k)))))
 
--- ---- `rootRound`, from its n and its k on
+-- ---- `root_round`, from its n and its k on
 abbrev core : ℕ → ℕ → ℕ → Float
 core n den k =
     let u = den * (2 ^ k * 2 ^ k) in

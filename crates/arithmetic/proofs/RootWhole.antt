@@ -1,4 +1,4 @@
--- `wholeRoot` is the largest number whose square is at most n, and what `rootRound` keeps of it is the whole number nearest to the root.
+-- `whole_root` is the largest number whose square is at most n, and what `root_round` keeps of it is the whole number nearest to the root.
 -- Assumes nothing.
 use Rattle.std.proofs.Common.{◌≡◌, ℕ, zero, suc, ◌+◌, ◌*◌, ◌^◌, ◌<◌, ◌≤◌, Bool, true, false, cond, not, T, leb, sym, refl, ap, ◌∙◌, subst}
 use Rattle.std.proofs.Common.{zero-le, le_of_suc-le-suc, add_assoc, mul-le-mul_right, zero-lt-suc, suc-mul, add-mul, le_antisymm}
@@ -86,7 +86,7 @@ compare_more a b h = go (compare a b) (leb→le a b)
     go Ordering.eq k = absurd (clash (k tt))
     go Ordering.gt k = refl
 
--- ---- what `rootRound` keeps, at n = N * u
+-- ---- what `root_round` keeps, at n = N * u
 abbrev pub middle : ℕ → ℕ
 middle w = (2 * w + 1) * (2 * w + 1)
 

@@ -5,7 +5,7 @@ use Rattle.std.proofs.Common.{le-div_iff_mul-le, le_of_mul-le-mul_right, arith, 
 use Prim.Native.Nat.{compare, Ordering}
 use lib.Dec.{is_le, compare_is_eq, nleb→lt, eqb_refl}
 use lib.Arith.{lt_of_le-ne}
-use lib.Ieee.{Float, binary64, size, nearest, round, units}
+use lib.Ieee.{Float, binary64, size, nearest, round}
 use lib.Ieee.Digits.{size_reaches}
 use lib.Ieee.Fits.{round_is}
 use lib.Ieee.Exact.{HasValue, units_val}

@@ -1,4 +1,4 @@
--- `totalOrder` is total and transitive, and antisymmetric among the values that an f64 holds. And where two numbers are equal it
+-- `total_order` is total and transitive, and antisymmetric among the values that an f64 holds. And where two numbers are equal it
 -- goes by their bit patterns. Assumes nothing.
 use Rattle.std.proofs.Common.{◌≡◌, ℕ, ◌+◌, ◌-◌, ◌*◌, ◌/◌, ◌^◌, ◌<◌, Bool, true, false, cond, not, ◌||◌, T, leb, ◌⊎◌, ℤ, pos, sym, refl, ap}
 use Rattle.std.proofs.Common.{◌∙◌, subst, inl, inr, true≢false, zero-mul, mul-one, mul_right_comm, arith, ltb-false, le-leb, leb-true}

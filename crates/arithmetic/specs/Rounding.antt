@@ -1,7 +1,7 @@
 -- Floor, round with ties away from zero, and a whole number from a float. Definitions only. Assumes nothing.
-use Rattle.std.specs.Prelude.{ℕ, ◌+◌, ◌-◌, ◌*◌, ◌/◌, Bool, true, false, Float}
+use Rattle.std.specs.Prelude.{ℕ, ◌≡◌, ◌+◌, ◌-◌, ◌*◌, ◌/◌, Bool, true, false, pos, Float}
 use Rattle.std.specs.Float.{nan, inf, fin, binary64}
-use Rattle.std.specs.Float.Ieee.{up, down, round, to_unsigned}
+use Rattle.std.specs.Float.Ieee.{up, down, round, to_unsigned, lt}
 
 -- x with its size, a fraction, made a whole number by a rule that sees the sign too. NaN and the infinities stay, and a result of zero
 -- keeps the sign of x.
@@ -30,3 +30,7 @@ round_of x = whole_by ties_away x
 -- "A whole number from a float saturates at 0 and 2^64-1.", its fraction cut off, and NaN gives 0
 abbrev pub whole_of : Float → ℕ
 whole_of x = to_unsigned 64 x
+
+-- above 0 and below 2^52, from where on every float is whole
+abbrev pub BelowWhole : Float → Type 0
+BelowWhole a = (lt (fin false 0 (pos 0)) a ≡ true) × (lt a (fin false 1 (pos 52)) ≡ true)

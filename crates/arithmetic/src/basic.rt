@@ -1,22 +1,18 @@
 ghost use Rattle.std.specs.Prelude.{◌≡◌};
 ghost use Rattle.arithmetic.specs.Basic.{is_finite, absolute, sign_positive, at_most, clamp_to};
 
-// Whether x is neither an infinity nor NaN.
+// Whether x is neither an infinity nor NaN, by two comparisons: f64's own method subtracts first.
 pub fn is_finite(x: f64) -> bool
     ensures { result ≡ is_finite x }
 {
-    let infinity = 1.0 / 0.0;
-    if x < infinity {
-        return -infinity < x;
-    }
-    false
+    x < f64::INFINITY && -f64::INFINITY < x
 }
 
 // x with its sign cleared.
 pub fn abs(x: f64) -> f64
     ensures { result ≡ absolute x }
 {
-    if x != x {
+    if x.is_nan() {
         return x;
     }
     // without the highest bit, which is the sign's: no jump that depends on the sign
@@ -46,8 +42,9 @@ fn at_most(x: f64, max: f64) -> f64
     x
 }
 
-// Rust's f64::clamp: below min gives min, then above max gives max. Where min is above max, or one is NaN, Rust panics; here the two steps
-// decide.
+// Rust's f64::clamp: below min gives min, then above max gives max. Where min is above max, or one is NaN, Rust panics, and f64's own
+// method asks that it is not so; here the two steps decide.
+#[tactic(auto, unfolding(crate::specs::Basic::clamp_to))]
 pub fn clamp(x: f64, min: f64, max: f64) -> f64
     ensures { result ≡ clamp_to x min max }
 {

@@ -1,15 +1,15 @@
 ghost use Rattle.std.specs.Prelude.{◌≡◌, true, false, pos};
-ghost use Rattle.std.specs.Float.{binary64, fin};
-ghost use Rattle.std.specs.Float.Ieee.{lt, of_int};
+ghost use Rattle.std.specs.Float.{binary64};
+ghost use Rattle.std.specs.Float.Ieee.{of_int};
 ghost use Rattle.std.specs.Float.Ieee.Positive.{num, den};
-ghost use Rattle.arithmetic.specs.Rounding.{floor_of, round_of, whole_of, toward_negative, ties_away};
+ghost use Rattle.arithmetic.specs.Rounding.{floor_of, round_of, whole_of, toward_negative, ties_away, BelowWhole};
 
 // 2^52: from here on every float is whole.
 const WHOLE: f64 = 4503599627370496.0;
 
 // The whole part of a number between 0 and 2^52.
 fn cut(a: f64) -> f64
-    requires { (lt (fin false 0 (pos 0)) a ≡ true) × (lt a (fin false 1 (pos 52)) ≡ true) }
+    requires { BelowWhole a }
     ensures { result ≡ of_int binary64 (pos (toward_negative false (num a) (den a))) }
 {
     std::num::truncating_f64_to_u64(a) as f64
@@ -17,7 +17,7 @@ fn cut(a: f64) -> f64
 
 // The least whole number at or above a number between 0 and 2^52.
 fn raised(a: f64) -> f64
-    requires { (lt (fin false 0 (pos 0)) a ≡ true) × (lt a (fin false 1 (pos 52)) ≡ true) }
+    requires { BelowWhole a }
     ensures { result ≡ of_int binary64 (pos (toward_negative true (num a) (den a))) }
 {
     let whole = std::num::truncating_f64_to_u64(a);
@@ -29,7 +29,7 @@ fn raised(a: f64) -> f64
 
 // The nearest whole number to a number between 0 and 2^52, half way the larger.
 fn nearest(a: f64) -> f64
-    requires { (lt (fin false 0 (pos 0)) a ≡ true) × (lt a (fin false 1 (pos 52)) ≡ true) }
+    requires { BelowWhole a }
     ensures { result ≡ of_int binary64 (pos (ties_away false (num a) (den a))) }
 {
     // Doubling is exact, so the halves are counted.
@@ -37,7 +37,7 @@ fn nearest(a: f64) -> f64
     ((halves + 1) / 2) as f64
 }
 
-// The greatest whole number at or below x.
+// The greatest whole number at or below x. One test stands in the other: joined by `&&` they took a tenth longer in a loop of calls.
 pub fn floor(x: f64) -> f64
     ensures { result ≡ floor_of x }
 {
@@ -57,7 +57,8 @@ pub fn floor(x: f64) -> f64
     x
 }
 
-// The nearest whole number to x, half way the one farther from zero.
+// The nearest whole number to x, half way the one farther from zero. A function over what `floor` and this call above and below zero would
+// take two closures, and be no plainer.
 pub fn round(x: f64) -> f64
     ensures { result ≡ round_of x }
 {
@@ -81,11 +82,5 @@ pub fn round(x: f64) -> f64
 pub fn to_u64(x: f64) -> u64
     ensures { result ≡ whole_of x }
 {
-    if 0.0 < x {
-        if x < 18446744073709551616.0 {
-            return std::num::truncating_f64_to_u64(x);
-        }
-        return 18446744073709551615;
-    }
-    0
+    std::num::saturating_f64_to_u64(x)
 }

@@ -23,6 +23,7 @@ fn halved_root(m: u64) -> u64
 {
     let mut low = 9007199254740992;
     let mut high = 18014398509481984;
+    // The test of each middle says which half is left, so that the interval itself is what is gone through.
     while high - low > 1 {
         let middle = low + (high - low) / 2;
         if square_at_most(middle, m) {
@@ -49,6 +50,7 @@ fn subnormal_root(b: u64) -> f64
 {
     let mut m = b;
     let mut k = 511;
+    // How often depends on the digits.
     while m < 4503599627370496 {
         m *= 4;
         k -= 1;
@@ -83,7 +85,7 @@ fn careful_root(b: u64) -> f64
     )
 }
 
-// a + b * x + c * x²
+// a + slope * x + c * x²
 #[derive(Clone, Copy)]
 struct Parabola(f64, f64, f64);
 
@@ -165,8 +167,8 @@ fn guessed_root(b: u64) -> f64
     requires { (0x3ff0_0000_0000_0000 ≤ b) × (b < 0x3ff0_0000_0000_0000 + 2 ^ 53) }
 {
     let x = f64::from_bits(b);
-    let near = near_parabola((b - 0x3ff0_0000_0000_0000) / 140737488355328);
-    let h = near.0 + near.1 * x + x * x * near.2;
+    let Parabola(a, slope, c) = near_parabola((b - 0x3ff0_0000_0000_0000) / 140737488355328);
+    let h = a + slope * x + x * x * c;
     let s = (x + x) * h;
     if s < 2.0 {
         let t = f64::from_bits(f64::to_bits(s) % 4611686018427387904 / 134217728 * 134217728);

@@ -22,9 +22,7 @@ use Rattle.mesh.specs.MeshCast.{shape_admitted, room_for, mesh_cast, ray_mesh}
 use Rattle.mesh.specs.Demand3.{PassesCheck}
 use Rattle.mesh.proofs.WalkLists.{walk_lists_candidates}
 use Rattle.cabinet.specs.declared.part.Part.{Part}
-use Rattle.cabinet.specs.declared.part.Found.{Found}
-use Rattle.cabinet.specs.declared.part.Found.TheVariants.{Nothing, Hit, Refused}
-use Rattle.cabinet.specs.declared.part.Progress.{Progress}
+use Rattle.cabinet.specs.Found.{Found, Nothing, Hit, Refused, Progress}
 use Rattle.cabinet.specs.Parts.{Areas, mesh_of, tree_of_part, ranges_inside, shape_fits, room_fits}
 use Rattle.cabinet.specs.PartCast.{moved_ray, need_of, own_cast}
 use Rattle.cabinet.specs.Cabinet.{is_refused, found_next, next_part, own_part, own_parts, all_parts}

@@ -10,7 +10,7 @@ use Rattle.tree.specs.Mesh.{Mesh, thirds, lengths_admitted}
 use Rattle.tree_query.specs.Query.{walk_fits}
 use Rattle.vectors.specs.declared.vec3.Vec3.{Vec3}
 use Rattle.cabinet.specs.declared.part.Part.{Part}
-use Rattle.cabinet.specs.declared.part.State.{State}
+use Rattle.cabinet.specs.Found.{State}
 use Rattle.cabinet.specs.Parts.{Areas, mesh_of, tree_of_part, ranges_inside}
 use Rattle.cabinet.specs.PartCast.{cast_moved}
 use Rattle.cabinet.specs.Cabinet.{is_refused, after_part}

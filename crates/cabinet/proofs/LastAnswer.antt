@@ -8,7 +8,7 @@ use borrow.Author.Tests.{ltb-false, ne_eqb}
 use lib.Dec.{ltb, eqb}
 use Rattle.geometry.specs.declared.ray.Ray.{Ray}
 use Rattle.cabinet.specs.declared.part.Part.{Part}
-use Rattle.cabinet.specs.declared.part.Progress.{Progress}
+use Rattle.cabinet.specs.Found.{Progress}
 use Rattle.cabinet.specs.Parts.{Areas, mesh_of, tree_of_part}
 use Rattle.cabinet.specs.PartCast.{Costed, cast_moved}
 use Rattle.cabinet.specs.Cabinet.{is_refused, found_next, next_part, after_part, beginning, cast_part, cast_parts, answer_of}

@@ -4,6 +4,7 @@ pub mod Limits
 pub mod Alone
 pub mod Numbers
 pub mod Promises
+pub mod Refusals
 pub mod PartSteps
 pub mod LookTests
 pub mod Idle

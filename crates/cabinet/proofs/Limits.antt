@@ -12,9 +12,7 @@ use Rattle.geometry.specs.declared.ray.Ray.{Ray}
 use Rattle.casts.specs.Answer.{limit_reached}
 use Rattle.nearest_hit.specs.Nearest.{stopped}
 use Rattle.cabinet.specs.declared.part.Part.{Part}
-use Rattle.cabinet.specs.declared.part.Found.{Found}
-use Rattle.cabinet.specs.declared.part.Found.TheVariants.{Nothing, Hit, Refused}
-use Rattle.cabinet.specs.declared.part.Progress.{Progress}
+use Rattle.cabinet.specs.Found.{Found, Nothing, Hit, Refused, Progress}
 use Rattle.cabinet.specs.Parts.{Areas, mesh_of, tree_of_part}
 use Rattle.cabinet.specs.PartCast.{Costed, costing, cast_moved, own_cast}
 use Rattle.cabinet.specs.Cabinet.{refused_after, answer_of, is_refused, found_next, next_part, after_part, cast_part, cast_parts}

@@ -16,8 +16,7 @@ use Rattle.nearest_hit.specs.Nearest.{Indexed, hit_at, no_hit, stopped, next_of,
 use Rattle.lists.specs.Lists.{range}
 use Rattle.lists.proofs.CountLaws.{member_of_count, count_range_inside}
 use Rattle.cabinet.specs.declared.part.Part.{Part}
-use Rattle.cabinet.specs.declared.part.Found.{Found}
-use Rattle.cabinet.specs.declared.part.Found.TheVariants.{Nothing, Hit, Refused}
+use Rattle.cabinet.specs.Found.{Found, Nothing, Hit, Refused}
 use Rattle.cabinet.specs.Cabinet.{found_next, next_part}
 use Rattle.cabinet.specs.Promises.{nearest_part}
 use Rattle.cabinet.specs.Steps.{no_part}

@@ -7,15 +7,12 @@ use mathlib.Core.List.{List, [], ◌∷◌}
 use lib.Dec.{ltb}
 use lib.Ieee.{Float, lt, le, is_nan}
 use lib.ListN.{length}
+use Rattle.std.specs.Prelude.{Option, Some, None}
 use Rattle.vectors.specs.Numbers.{◌+ᶠ◌, ◌*ᶠ◌, ◌/ᶠ◌, zeroᶠ, oneᶠ}
 use Rattle.vectors.specs.Vector.{finite_vec, sub_of, cross_of, dot_of, checked_dot, try_normalize}
 use Rattle.geometry.specs.Box.{valid_box}
 use Rattle.geometry.specs.Segment.{segment_end, segment_box}
 use Rattle.vectors.specs.declared.vec3.Vec3.{Vec3}
-use Rattle.vectors.specs.declared.vec3.Checked.{Checked}
-use Rattle.vectors.specs.declared.vec3.Checked.TheVariants.{Value, Overflow}
-use Rattle.vectors.specs.declared.vec3.Normalized.{Normalized}
-use Rattle.vectors.specs.declared.vec3.Normalized.TheVariants.{Unit as UnitOf, Degenerate}
 use Rattle.geometry.specs.declared.ray.Ray.{Ray}
 use Rattle.casts.specs.Answer.{Answer, hit, none, refused, with_value, with_normal, no_room, no_normal, out_of_bounds, overflow}
 use Rattle.casts.specs.Answer.{limit_reached}
@@ -27,9 +24,7 @@ use Rattle.tree.specs.Mesh.{Mesh, thirds, corners_inside, corner_at, triangle_an
 use Rattle.tree_walk.specs.Walk.{Walking, walking, broken, walk_of}
 use Rattle.mesh.specs.MeshCast.{over_walk, mesh_cast}
 use Rattle.cabinet.specs.declared.part.Part.{Part}
-use Rattle.cabinet.specs.declared.part.Found.{Found}
-use Rattle.cabinet.specs.declared.part.Found.TheVariants.{Nothing, Hit, Refused}
-use Rattle.cabinet.specs.declared.part.Progress.{Progress}
+use Rattle.cabinet.specs.Found.{Found, Nothing, Hit, Refused, Progress}
 use Rattle.cabinet.specs.Parts.{Areas, mesh_of, tree_of_part}
 use Rattle.cabinet.specs.PartCast.{Costed, costing, moved_ray, need_of, own_cast}
 use Rattle.cabinet.specs.Cabinet.{is_refused, found_next, after_part, own_part, own_parts}
@@ -48,13 +43,13 @@ either : (b : Bool) (x y : Answer) → plain x ≡ true → plain y ≡ true →
 either true x y e f = e
 either false x y e f = f
 
-value_plain : (c : Checked) (k : Float → Answer) → ((x : Float) → plain (k x) ≡ true) → plain (with_value c k) ≡ true
-value_plain (Value x) k h = h x
-value_plain Overflow k h = refl
+value_plain : (c : Option Float) (k : Float → Answer) → ((x : Float) → plain (k x) ≡ true) → plain (with_value c k) ≡ true
+value_plain (Some x) k h = h x
+value_plain None k h = refl
 
-normal_plain : (c : Normalized) (k : Vec3 → Answer) → ((v : Vec3) → plain (k v) ≡ true) → plain (with_normal c no_normal k) ≡ true
-normal_plain (UnitOf v) k h = h v
-normal_plain Degenerate k h = refl
+normal_plain : (c : Option Vec3) (k : Vec3 → Answer) → ((v : Vec3) → plain (k v) ≡ true) → plain (with_normal c no_normal k) ≡ true
+normal_plain (Some v) k h = h v
+normal_plain None k h = refl
 
 triangle_normal_plain : (r : Ray) (a b : Vec3) (distance : Float) → plain (triangle_normal r a b distance) ≡ true
 unfolding triangle_normal

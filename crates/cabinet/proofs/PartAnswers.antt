@@ -31,8 +31,7 @@ use Rattle.mesh.specs.Demand3.{PassesCheck, Admitted, NearestHit}
 use Rattle.mesh.proofs.Demand3.{demand3}
 use Rattle.mesh.proofs.HitDistances.{ray_mesh_hit_measured}
 use Rattle.cabinet.specs.declared.part.Part.{Part}
-use Rattle.cabinet.specs.declared.part.Found.{Found}
-use Rattle.cabinet.specs.declared.part.Found.TheVariants.{Nothing, Hit, Refused}
+use Rattle.cabinet.specs.Found.{Found, Nothing, Hit, Refused}
 use Rattle.cabinet.specs.Parts.{Areas, mesh_of, tree_of_part, shape_fits, room_fits}
 use Rattle.cabinet.specs.PartCast.{moved_ray}
 use Rattle.cabinet.specs.Cabinet.{Answer, hit_in, none_after, refused, refused_after, answer_with, answer_of, beginning, cast_parts}

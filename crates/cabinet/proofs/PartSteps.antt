@@ -2,29 +2,23 @@
 use Prim.Native.Nat.{ℕ, ◌+◌, ◌-◌, ◌*◌, ◌%◌, ◌≤◌, ◌<◌}
 use mathlib.Core.Path.{◌≡◌, refl, sym, ap, ◌∙◌}
 use mathlib.Core.Bool.{Bool, true, false, ◌&&◌, true≢false}
-use mathlib.Core.List.{List}
 use native.Mathlib.Omega.{arith}
 use borrow.Author.Tests.{leb-true, leb-false, le-leb, lt-leb}
 use lib.Dec.{leb, eqb}
-use lib.Ieee.{Float}
-use lib.ListN.{length, take, drop}
+use lib.ListN.{length}
 use Rattle.vectors.specs.declared.vec3.Vec3.{Vec3}
 use Rattle.casts.specs.Answer.{bad_shape, no_room}
-use Rattle.nearest_hit.specs.Nearest.{says_indexed}
-use Rattle.tree.specs.Layout.{Tree, tree_of}
-use Rattle.tree.specs.Mesh.{Mesh, thirds, lengths_admitted, mesh}
+use Rattle.tree.specs.Layout.{Tree}
+use Rattle.tree.specs.Mesh.{Mesh, thirds, lengths_admitted}
 use Rattle.lists.proofs.JoinedTests.{and_first, and_second}
 use Rattle.tree_query.specs.Query.{walk_fits}
-use Rattle.cabinet.specs.declared.part.Span.{Span}
 use Rattle.cabinet.specs.declared.part.Part.{Part}
-use Rattle.cabinet.specs.declared.part.Found.{Found}
-use Rattle.cabinet.specs.declared.part.Progress.{Progress}
-use Rattle.cabinet.specs.declared.part.State.{State}
 use Rattle.cabinet.specs.declared.part.CastCost.{CastCost}
-use Rattle.cabinet.specs.Parts.{Areas, floats_at, words_at, mesh_of, tree_of_part, stays_in, ranges_inside}
+use Rattle.cabinet.specs.Found.{Progress, State}
+use Rattle.cabinet.specs.Parts.{Areas, mesh_of, tree_of_part, stays_in, ranges_inside}
 use Rattle.cabinet.specs.PartCast.{Costed, cast_moved}
-use Rattle.cabinet.specs.Cabinet.{is_refused, found_next, next_part, after_part}
-use Rattle.cabinet.specs.Steps.{says_cost, keeping, lower_refusal, refuse_with, is_over, is_idle, own_step, step_part}
+use Rattle.cabinet.specs.Cabinet.{is_refused, after_part}
+use Rattle.cabinet.specs.Steps.{says_cost, keeping, refuse_with, is_over, is_idle, own_step, step_part}
 use Rattle.cabinet.proofs.PartLimits.{moved_spent}
 
 -- ---- ranges
@@ -78,26 +72,6 @@ module _ (vertices triangles nodes : ℕ) (h : (lengths_admitted vertices triang
   pub nodes_few : leb nodes (2 * thirds triangles) ≡ true
   nodes_few = and_second (lengths_admitted vertices triangles) (leb nodes (2 * thirds triangles)) h
 
--- ---- what the small functions of a step answer
-pub after_goes : (s : Progress) (c : CastCost) → is_refused s.found ≡ false → (k : ℕ) → k ≡ next_part s.part → (f : Found)
-    → f ≡ found_next s.found s.part (says_indexed c.cast)
-    → record { part = k; spent = s.spent + c.spent; found = f } ≡ after_part s (says_cost c)
-unfolding after_part
-after_goes s c h k e f g = rw (h, e, g) refl
-
-pub refuses_lower : (number : ℕ) (s : State) (f : Found) → f ≡ lower_refusal number s.at.found
-    → keeping s (record { part = s.at.part; spent = s.at.spent; found = f }) ≡ refuse_with number s
-unfolding refuse_with
-refuses_lower number s f e = rw e refl
-
-pub not_over : (s : State) → s.casting ≡ false → false ≡ is_over s
-unfolding is_over
-not_over s h = simp h
-
-pub over_if_refused : (s : State) → s.casting ≡ true → (x : Bool) → x ≡ is_refused s.at.found → x ≡ is_over s
-unfolding is_over
-over_if_refused s h x e = e ∙ simp h
-
 -- ---- the step over a part's own areas
 module _ (origin : Vec3) (m : Mesh) (t : Tree) (list stack : ℕ) (s : State) where
   abbrev admitted : Bool
@@ -134,39 +108,6 @@ pub spent_fits : (s : State) (origin : Vec3) (m : Mesh) (t : Tree) (left bound :
 spent_fits s origin m t left bound l c e h k = omega (arith, ap (λ (x : Costed). x.spent) e, moved_spent left s.ray origin m t)
 
 -- ---- one part of a pass
--- what stands from a start to its end
-abbrev floats_to : Span → List Float → List Float
-floats_to s area = take ((s.start + s.length) - s.start) (drop s.start area)
-
-abbrev words_to : Span → List ℕ → List ℕ
-words_to s area = take ((s.start + s.length) - s.start) (drop s.start area)
-
-span_long : (s : Span) → (s.start + s.length) - s.start ≡ s.length
-span_long s = omega arith
-
-floats_are : (s : Span) (area : List Float) → floats_to s area ≡ floats_at s area
-floats_are s area = ap (λ (k : ℕ). take k (drop s.start area)) (span_long s)
-
-words_are : (s : Span) (area : List ℕ) → words_to s area ≡ words_at s area
-words_are s area = ap (λ (k : ℕ). take k (drop s.start area)) (span_long s)
-
-pub own_areas : (a : Areas) (list stack : ℕ) (s : State) (p : Part) (x : State)
-    → x ≡ own_step p.origin (mesh (floats_to p.vertices a.vertices) (words_to p.triangles a.triangles))
-    (tree_of p.nodes (floats_to p.node_boxes a.node_boxes) (floats_to p.triangle_boxes a.triangle_boxes)
-    (words_to p.node_words a.node_words) (words_to p.order a.order))
-    list stack s → x ≡ own_step p.origin (mesh_of a p) (tree_of_part a p) list stack s
-own_areas a list stack s p x e =
-    e
-    ∙ rw (
-      floats_are p.vertices a.vertices,
-      words_are p.triangles a.triangles,
-      floats_are p.node_boxes a.node_boxes,
-      floats_are p.triangle_boxes a.triangle_boxes,
-      words_are p.node_words a.node_words,
-      words_are p.order a.order,
-    )
-    refl
-
 module _ (a : Areas) (list stack : ℕ) (s : State) (p : Part) where
   abbrev inside : Bool
   inside = ranges_inside p (length a.vertices) (length a.triangles) (length a.node_boxes) (length a.triangle_boxes)

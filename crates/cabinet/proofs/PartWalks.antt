@@ -1,8 +1,8 @@
 -- The cast at one part: each of the code's answers is the definition's. Assumes nothing.
-use Prim.Native.Nat.{ℕ, ◌-◌, ◌≤◌}
+use Prim.Native.Nat.{ℕ, ◌≤◌}
 use mathlib.Core.Path.{◌≡◌, sym, ap, subst, ◌∙◌}
 use mathlib.Core.Bool.{true, false}
-use mathlib.Core.List.{List, []}
+use mathlib.Core.List.{List}
 use lib.ListN.{length, take}
 use Rattle.vectors.specs.Vector.{finite_vec, sub_of}
 use Rattle.geometry.specs.Segment.{segment_end, segment_box}

@@ -17,11 +17,7 @@ use Rattle.tree_query.specs.Query.{tree_fits, walk_fits}
 use Rattle.mesh.specs.MeshCast.{shape_admitted, room_for}
 use Rattle.cabinet.specs.declared.part.Span.{Span}
 use Rattle.cabinet.specs.declared.part.Part.{Part}
-use Rattle.cabinet.specs.declared.part.Look.{Look}
-use Rattle.cabinet.specs.declared.part.Found.{Found}
-use Rattle.cabinet.specs.declared.part.Found.TheVariants.{Nothing, Hit, Refused}
-use Rattle.cabinet.specs.declared.part.Progress.{Progress}
-use Rattle.cabinet.specs.declared.part.State.{State}
+use Rattle.cabinet.specs.Found.{Found, Nothing, Hit, Refused, Progress, State, Look}
 use Rattle.cabinet.specs.Parts.{Areas, floats_at, words_at, mesh_of, tree_of_part, ranges_inside, shape_fits, room_fits}
 use Rattle.cabinet.specs.PartCast.{cast_moved}
 use Rattle.cabinet.specs.Cabinet.{Answer, refused, answer_with, answer_of, is_refused, beginning, cast_part, cast_parts, all_parts}

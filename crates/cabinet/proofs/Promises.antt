@@ -13,9 +13,7 @@ use Rattle.geometry.specs.declared.ray.Ray.{Ray}
 use Rattle.casts.specs.Answer.{invalid_input, bad_shape, no_room, limit_reached}
 use Rattle.lists.proofs.JoinedTests.{and_both, and_first, and_second}
 use Rattle.cabinet.specs.declared.part.Part.{Part}
-use Rattle.cabinet.specs.declared.part.Found.{Found}
-use Rattle.cabinet.specs.declared.part.Found.TheVariants.{Nothing, Hit, Refused}
-use Rattle.cabinet.specs.declared.part.Progress.{Progress}
+use Rattle.cabinet.specs.Found.{Found, Nothing, Hit, Refused, Progress}
 use Rattle.cabinet.specs.Parts.{Areas, shape_fits, room_fits}
 use Rattle.cabinet.specs.Cabinet.{Answer, hit_in, none_after, refused, refused_after, answer_with, answer_of, beginning, cast_parts}
 use Rattle.cabinet.specs.Cabinet.{own_parts, all_parts, cast_cabinet}

@@ -7,9 +7,7 @@ use Rattle.geometry.specs.declared.ray.Ray.{Ray}
 use Rattle.casts.specs.Answer.{invalid_input, bad_shape, no_room}
 use Rattle.nearest_hit.specs.Nearest.{Indexed, hit_at, no_hit, stopped}
 use Rattle.cabinet.specs.declared.part.Part.{Part}
-use Rattle.cabinet.specs.declared.part.Found.{Found}
-use Rattle.cabinet.specs.declared.part.Found.TheVariants.{Nothing, Hit, Refused}
-use Rattle.cabinet.specs.declared.part.Progress.{Progress}
+use Rattle.cabinet.specs.Found.{Found, Nothing, Hit, Refused, Progress}
 use Rattle.cabinet.specs.Parts.{Areas, mesh_of, tree_of_part, shape_fits, room_fits}
 use Rattle.cabinet.specs.PartCast.{Costed, cast_moved, own_cast}
 

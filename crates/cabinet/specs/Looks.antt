@@ -4,10 +4,7 @@ use Rattle.casts.specs.Answer.{bad_shape, no_room}
 use Rattle.tree.specs.Layout.{all_long, tree_lengths}
 use Rattle.tree.specs.Mesh.{thirds, lengths_admitted}
 use Rattle.cabinet.specs.declared.part.Part.{Part}
-use Rattle.cabinet.specs.declared.part.Found.{Found}
-use Rattle.cabinet.specs.declared.part.Found.TheVariants.{Nothing, Hit, Refused}
-use Rattle.cabinet.specs.declared.part.Look.{Look}
-use Rattle.cabinet.specs.declared.part.State.{State}
+use Rattle.cabinet.specs.Found.{Found, Nothing, Hit, Refused, State, Look}
 use Rattle.cabinet.specs.Parts.{ranges_inside}
 
 -- the lower of two refusals stands; 0 is none

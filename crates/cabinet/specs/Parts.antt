@@ -3,6 +3,8 @@ use Rattle.std.specs.Prelude.{ℕ, ◌+◌, Bool, ◌&&◌, List, leb, Float, le
 use Rattle.tree.specs.Layout.{Tree, tree_of}
 use Rattle.tree.specs.Mesh.{Mesh, mesh}
 use Rattle.mesh.specs.MeshCast.{shape_admitted, room_for}
+use Rattle.cabinet.specs.declared.part.Areas as CodeAreas
+use Rattle.cabinet.specs.declared.part.Lengths.{Lengths}
 use Rattle.cabinet.specs.declared.part.Span.{Span}
 use Rattle.cabinet.specs.declared.part.Part.{Part}
 
@@ -14,6 +16,36 @@ pub record Areas : Type 0 where
   pub triangle_boxes : List Float
   pub node_words : List ℕ
   pub order : List ℕ
+
+-- what the code's areas lend
+abbrev pub lent : CodeAreas.Areas → Areas
+lent a =
+    record {
+      vertices = a.vertices.now;
+      triangles = a.triangles.now;
+      node_boxes = a.node_boxes.now;
+      triangle_boxes = a.triangle_boxes.now;
+      node_words = a.node_words.now;
+      order = a.order.now;
+    }
+
+abbrev pub lengths_of : Areas → Lengths
+lengths_of a =
+    record {
+      vertices = length a.vertices;
+      triangles = length a.triangles;
+      node_boxes = length a.node_boxes;
+      triangle_boxes = length a.triangle_boxes;
+      node_words = length a.node_words;
+      order = length a.order;
+    }
+
+-- the mesh and the tree that take up all of them
+abbrev pub lent_mesh : CodeAreas.Areas → Mesh
+lent_mesh a = mesh a.vertices.now a.triangles.now
+
+abbrev pub lent_tree : ℕ → CodeAreas.Areas → Tree
+lent_tree nodes a = tree_of nodes a.node_boxes.now a.triangle_boxes.now a.node_words.now a.order.now
 
 -- what a range names
 abbrev pub floats_at : Span → List Float → List Float

@@ -9,8 +9,7 @@ use Rattle.nearest_hit.specs.Nearest.{Indexed, stopped}
 use Rattle.mesh.specs.MeshCast.{ray_mesh}
 use Rattle.mesh.specs.Demand3.{PassesCheck}
 use Rattle.cabinet.specs.declared.part.Part.{Part}
-use Rattle.cabinet.specs.declared.part.Found.{Found}
-use Rattle.cabinet.specs.declared.part.Found.TheVariants.{Nothing}
+use Rattle.cabinet.specs.Found.{Found, Nothing}
 use Rattle.cabinet.specs.Parts.{Areas, mesh_of, tree_of_part, shape_fits, room_fits}
 use Rattle.cabinet.specs.PartCast.{moved_ray}
 use Rattle.cabinet.specs.Cabinet.{Answer, hit_in, none_after, refused, refused_after, answer_with, answer_of, found_next, next_part}

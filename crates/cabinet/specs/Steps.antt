@@ -11,11 +11,8 @@ use Rattle.tree.specs.Layout.{Tree}
 use Rattle.tree.specs.Mesh.{Mesh, thirds, lengths_admitted}
 use Rattle.tree_query.specs.Query.{walk_fits}
 use Rattle.cabinet.specs.declared.part.Part.{Part}
-use Rattle.cabinet.specs.declared.part.Found.{Found}
-use Rattle.cabinet.specs.declared.part.Found.TheVariants.{Nothing, Hit, Refused}
-use Rattle.cabinet.specs.declared.part.Progress.{Progress}
-use Rattle.cabinet.specs.declared.part.State.{State}
 use Rattle.cabinet.specs.declared.part.CastCost.{CastCost}
+use Rattle.cabinet.specs.Found.{Found, Nothing, Hit, Refused, Progress, State}
 use Rattle.cabinet.specs.Parts.{Areas, mesh_of, tree_of_part, ranges_inside}
 use Rattle.cabinet.specs.Looks.{look_parts, look_from, second_pass}
 use Rattle.cabinet.specs.PartCast.{Costed, costing, cast_moved}

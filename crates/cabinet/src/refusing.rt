@@ -1,62 +1,41 @@
 ghost use Rattle.std.specs.Prelude.{◌≡◌};
-ghost use Rattle.cabinet.specs.Steps.{lower_refusal, refuse_with, is_over};
+ghost use Rattle.casts.specs.Answer.{number_of};
+ghost use Rattle.cabinet.specs.Found.{refusal_number, says_state};
+ghost use Rattle.cabinet.specs.Looks.{lower_number};
+ghost use Rattle.cabinet.specs.Steps.{refuse_with, is_over};
 
-use crate::found;
-use crate::part::{Found, Progress, State};
+use crate::part::{Progress, State};
+use casts::answer::Refusal;
 
 // The lower of two refusals stands: 1 before 2, and 2 of any part before 3 of any part.
-fn lower_refusal(number: u32, found: Found) -> Found
-    ensures { result ≡ lower_refusal number found }
+#[tactic(auto, using(crate::proofs::Refusals::some_number), unfolding(crate::specs::Looks::lower_number))]
+pub fn lower(refusal: Refusal, before: Option<Refusal>) -> Refusal
+    ensures { number_of result ≡ lower_number (number_of refusal) (refusal_number before) }
 {
-    match found {
-        Found::Nothing => {
-            return Found::Refused(number);
-        }
-        Found::Hit {
-            part: _,
-            index: _,
-            normal: _,
-            distance: _,
-        } => {
-            return Found::Refused(number);
-        }
-        Found::Refused(before) => {
-            if number < before {
-                return Found::Refused(number);
-            }
-            return Found::Refused(before);
-        }
+    let Some(first) = before else {
+        return refusal;
+    };
+    if refusal < first {
+        return refusal;
     }
+    first
 }
 
-pub fn refuse_with(number: u32, s: State) -> State
-    ensures { result ≡ refuse_with number s }
+#[tactic(auto, using(crate::proofs::Refusals::some_number), unfolding(crate::specs::Steps::refuse_with, crate::specs::Steps::lower_refusal, crate::specs::Looks::lower_number))]
+pub fn refuse_with(refusal: Refusal, s: State) -> State
+    ensures { says_state result ≡ refuse_with (number_of refusal) (says_state s) }
 {
-    let at = s.at;
-    let found = at.found;
-    let lower = lower_refusal(number, found);
-    let ray = s.ray;
     let refused = Progress {
-        part: at.part,
-        spent: at.spent,
-        found: lower,
+        found: Err(lower(refusal, s.at.found.err())),
+        ..s.at
     };
-    State {
-        ray: ray,
-        limit: s.limit,
-        casting: s.casting,
-        at: refused,
-    }
+    State { at: refused, ..s }
 }
 
 // Whether a refusal ended the casts.
+#[tactic(auto, unfolding(crate::specs::Steps::is_over))]
 pub fn is_over(s: State) -> bool
-    ensures { result ≡ is_over s }
+    ensures { result ≡ is_over (says_state s) }
 {
-    if !s.casting {
-        return false;
-    }
-    let at = s.at;
-    let found = at.found;
-    found::is_refused(found)
+    s.casting && s.at.found.is_err()
 }

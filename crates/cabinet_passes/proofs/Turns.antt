@@ -6,8 +6,7 @@ use lib.ListN.{length, get_or, drop}
 use lib.Seq.{drop-cons, drop-length}
 use native.Mathlib.Numerals.{add-one}
 use Rattle.cabinet.specs.declared.part.Part.{Part}
-use Rattle.cabinet.specs.declared.part.Look.{Look}
-use Rattle.cabinet.specs.declared.part.State.{State}
+use Rattle.cabinet.specs.Found.{State, Look}
 use Rattle.cabinet.specs.Parts.{Areas}
 use Rattle.cabinet.specs.Looks.{look_part, look_parts}
 use Rattle.cabinet.specs.Steps.{step_part, step_parts}

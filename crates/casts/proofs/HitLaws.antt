@@ -12,10 +12,8 @@ use Rattle.vectors.specs.Numbers.{◌-ᶠ◌, ◌/ᶠ◌}
 use Rattle.vectors.specs.Vector.{checked_dot}
 use Rattle.geometry.specs.Segment.{ray_admitted}
 use Rattle.vectors.specs.declared.vec3.Vec3.{Vec3}
-use Rattle.vectors.specs.declared.vec3.Checked.{Checked}
-use Rattle.vectors.specs.declared.vec3.Checked.TheVariants.{Value, Overflow}
-use Rattle.vectors.specs.declared.vec3.Normalized.{Normalized}
-use Rattle.vectors.specs.declared.vec3.Normalized.TheVariants.{Unit as UnitOf, Degenerate}
+use Rattle.std.specs.Prelude.{Option}
+use Rattle.std.specs.Prelude.{Some, None}
 use Rattle.geometry.specs.declared.ray.Ray.{Ray}
 use Rattle.casts.specs.Answer.{Answer, hit, none, refused, with_value, with_normal, invalid_input, bad_shape, overflow}
 use Rattle.casts.specs.Surface.{off_segment, facing}
@@ -41,14 +39,14 @@ module _ (P : Float → Type 0) where
   of_cond true x y p q = p refl
   of_cond false x y p q = q refl
 
-  pub of_value : (c : Checked) (next : Float → Answer) → ((x : Float) → OfHit P (next x)) → OfHit P (with_value c next)
-  of_value (Value x) next p = p x
-  of_value Overflow next p = of_refused overflow
+  pub of_value : (c : Option Float) (next : Float → Answer) → ((x : Float) → OfHit P (next x)) → OfHit P (with_value c next)
+  of_value (Some x) next p = p x
+  of_value None next p = of_refused overflow
 
-  pub of_with_normal : (t : Normalized) (number : ℕ) (next : Vec3 → Answer) → ((normal : Vec3) → OfHit P (next normal))
+  pub of_with_normal : (t : Option Vec3) (number : ℕ) (next : Vec3 → Answer) → ((normal : Vec3) → OfHit P (next normal))
       → OfHit P (with_normal t number next)
-  of_with_normal (UnitOf normal) number next p = p normal
-  of_with_normal Degenerate number next p = of_refused number
+  of_with_normal (Some normal) number next p = p normal
+  of_with_normal None number next p = of_refused number
 
 -- ---- the range
 

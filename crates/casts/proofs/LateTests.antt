@@ -6,7 +6,7 @@ use lib.Ieee.{Float, nan, inf, fin, add, sub, neg, div}
 use Rattle.arithmetic.specs.Basic.{is_finite}
 use Rattle.vectors.specs.Numbers.{◌-ᶠ◌, ◌/ᶠ◌}
 use Rattle.vectors.specs.Vector.{dot_of, checked_dot}
-use Rattle.vectors.specs.declared.vec3.Checked.TheVariants.{Value, Overflow}
+use Rattle.std.specs.Prelude.{Some, None}
 use Rattle.geometry.specs.declared.ray.Ray.{Ray}
 use Rattle.casts.specs.Answer.{Answer, refused, overflow, with_value}
 use Rattle.casts.specs.Plane.{plane_at}
@@ -46,7 +46,7 @@ module _ (plane : Plane) (r : Ray) (denominator : Float) where
   endless_refused h e =
       simp (quotient_endless (plane.distance -ᶠ h) denominator (difference_endless plane.distance h e))
 
-  tested : (h : Float) (b : Bool) → is_finite h ≡ b → at h ≡ with_value (cond b (Value h) Overflow) at
+  tested : (h : Float) (b : Bool) → is_finite h ≡ b → at h ≡ with_value (cond b (Some h) None) at
   tested h true e = refl
   tested h false e = endless_refused h e
 

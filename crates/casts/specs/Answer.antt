@@ -1,12 +1,10 @@
 -- "A cast answers a hit with a unit normal and a distance, or none, or a refusal number." Definitions only. Assumes nothing.
-use Rattle.std.specs.Prelude.{ℕ, Float}
+use Rattle.std.specs.Prelude.{ℕ, Float, Option, Some, None, Result, Ok, Err}
 use Rattle.vectors.specs.declared.vec3.Vec3.{Vec3}
-use Rattle.vectors.specs.declared.vec3.Checked.{Checked}
-use Rattle.vectors.specs.declared.vec3.Checked.TheVariants.{Value, Overflow}
-use Rattle.vectors.specs.declared.vec3.Normalized.{Normalized}
-use Rattle.vectors.specs.declared.vec3.Normalized.TheVariants.{Unit as UnitOf, Degenerate}
-use Rattle.casts.specs.declared.answer.Cast.{Cast}
-use Rattle.casts.specs.declared.answer.Cast.TheVariants.{Hit, None, Refused}
+use Rattle.casts.specs.declared.answer.Hit.{Hit}
+use Rattle.casts.specs.declared.answer.Refusal.{Refusal}
+use Rattle.casts.specs.declared.answer.Refusal.TheVariants.{InvalidInput, BadShape, NoRoom, WrongPose, OutOfBounds, Overflow}
+use Rattle.casts.specs.declared.answer.Refusal.TheVariants.{NoNormal, NotConvergent, BadRange, LimitReached, NotRepresentable, OutOfRange}
 
 -- the table's numbers: 1 to 8 are document 01's, 9 to 11 document 02's, 12 is the exact cast's
 abbrev pub invalid_input : ℕ
@@ -51,18 +49,33 @@ pub data Answer : Type 0 where
   none : Answer
   refused : ℕ → Answer
 
--- what each case of the code's answer says: its values, or its number
-abbrev pub says : Cast → Answer
-says (Hit normal distance) = hit normal distance
-says None = none
-says (Refused number) = refused number
+-- the number of each refusal in the table
+abbrev pub number_of : Refusal → ℕ
+number_of InvalidInput = invalid_input
+number_of BadShape = bad_shape
+number_of NoRoom = no_room
+number_of WrongPose = wrong_pose
+number_of OutOfBounds = out_of_bounds
+number_of Overflow = overflow
+number_of NoNormal = no_normal
+number_of NotConvergent = not_convergent
+number_of BadRange = bad_range
+number_of LimitReached = limit_reached
+number_of NotRepresentable = not_representable
+number_of OutOfRange = out_of_range
+
+-- what the code's answer says: a hit's values, or a refusal's number
+abbrev pub says : Result (Option Hit) Refusal → Answer
+says (Ok (Some h)) = hit h.normal h.distance
+says (Ok None) = none
+says (Err refusal) = refused (number_of refusal)
 
 -- a step that may overflow, and what follows with its value
-abbrev pub with_value : Checked → (Float → Answer) → Answer
-with_value (Value x) next = next x
-with_value Overflow next = refused overflow
+abbrev pub with_value : Option Float → (Float → Answer) → Answer
+with_value (Some x) next = next x
+with_value None next = refused overflow
 
 -- a normal that may not be there, and what follows with it
-abbrev pub with_normal : Normalized → ℕ → (Vec3 → Answer) → Answer
-with_normal (UnitOf normal) number next = next normal
-with_normal Degenerate number next = refused number
+abbrev pub with_normal : Option Vec3 → ℕ → (Vec3 → Answer) → Answer
+with_normal (Some normal) number next = next normal
+with_normal None number next = refused number

@@ -1,46 +1,59 @@
+ghost use Rattle.std.specs.Prelude.{◌≡◌};
+ghost use Rattle.casts.specs.Answer.{number_of};
+
 use vectors::vec3::Vec3;
 
-// A hit with a unit normal and a distance, none, or a refusal with its number in document 01's table.
-#[derive(Clone, Copy)]
-pub enum Cast {
-    Hit { normal: Vec3, distance: f64 },
-    None,
-    Refused(u32),
+/// Why a call gives no answer. The order is that of the numbers in the table of refusals, which other languages read.
+#[derive(Clone, Copy, Debug, PartialEq, Eq, PartialOrd, Ord)]
+pub enum Refusal {
+    InvalidInput,
+    BadShape,
+    NoRoom,
+    WrongPose,
+    OutOfBounds,
+    Overflow,
+    NoNormal,
+    NotConvergent,
+    /// A range of a visited cell is out of order or not finite.
+    BadRange,
+    /// The next node of a walk would exceed the limit.
+    LimitReached,
+    /// A record's float is NaN, or no float of the form that is asked for.
+    NotRepresentable,
+    /// The exact cast's grid does not reach a ray or a corner.
+    OutOfRange,
 }
 
-// The same without the normal: a hit at a distance, a miss, or a refusal with its number.
-#[derive(Clone, Copy)]
-pub enum Reach {
-    At(f64),
-    Miss,
-    Refused(u32),
+impl From<Refusal> for u32 {
+    ghost from_gives = { λ refusal number. number ≡ number_of refusal };
+
+    fn from(refusal: Refusal) -> u32 {
+        match refusal {
+            Refusal::InvalidInput => 1,
+            Refusal::BadShape => 2,
+            Refusal::NoRoom => 3,
+            Refusal::WrongPose => 4,
+            Refusal::OutOfBounds => 5,
+            Refusal::Overflow => 6,
+            Refusal::NoNormal => 7,
+            Refusal::NotConvergent => 8,
+            Refusal::BadRange => 9,
+            Refusal::LimitReached => 10,
+            Refusal::NotRepresentable => 11,
+            Refusal::OutOfRange => 12,
+        }
+    }
 }
 
-// The table of refusals: 1 to 8 are document 01's, 9 to 11 document 02's, 12 is the exact cast's.
-pub const INVALID_INPUT: u32 = 1;
+/// A surface at a distance, with its unit normal.
+#[derive(Clone, Copy)]
+pub struct Hit {
+    pub normal: Vec3,
+    pub distance: f64,
+}
 
-pub const BAD_SHAPE: u32 = 2;
+/// A hit, none, or a refusal.
+pub type Cast = Result<Option<Hit>, Refusal>;
 
-pub const NO_ROOM: u32 = 3;
-
-pub const WRONG_POSE: u32 = 4;
-
-pub const OUT_OF_BOUNDS: u32 = 5;
-
-pub const OVERFLOW: u32 = 6;
-
-pub const NO_NORMAL: u32 = 7;
-
-pub const NOT_CONVERGENT: u32 = 8;
-
-// A range of a visited cell that is out of order or not finite.
-pub const BAD_RANGE: u32 = 9;
-
-// The next node of a walk would exceed the limit.
-pub const LIMIT_REACHED: u32 = 10;
-
-// A record's float is NaN, or no float of the form that is asked for.
-pub const NOT_REPRESENTABLE: u32 = 11;
-
-// A ray or a corner that the exact cast's grid does not reach.
-pub const OUT_OF_RANGE: u32 = 12;
+/// The same without the normal: the distance of a hit.
+pub type Reach = Result<Option<f64>, Refusal>;

@@ -2,12 +2,12 @@ ghost use Rattle.std.specs.Prelude.{◌≡◌};
 ghost use Rattle.casts.specs.Answer.{says};
 ghost use Rattle.casts.specs.Plane.{plane_admitted, plane_at, plane_cast, ray_plane};
 
-use crate::answer::Cast;
-use crate::{answer, surface};
+use crate::answer::{Cast, Hit, Refusal};
+use crate::surface;
 use arithmetic::basic;
 use geometry::ray;
 use geometry::ray::Ray;
-use vectors::vec3::{Checked, Vec3};
+use vectors::vec3::Vec3;
 
 // All points whose dot with the normal is the distance.
 #[derive(Clone, Copy)]
@@ -17,43 +17,43 @@ pub struct Plane {
 }
 
 // Whether the normal's length is within 1e-12 of 1 and the distance finite; a NaN length is not within.
+#[tactic(auto, unfolding(crate::specs::Plane::plane_admitted))]
 pub fn is_admitted(plane: Plane) -> bool
     ensures { result ≡ plane_admitted plane }
 {
-    if ray::close_to_unit_length(plane.normal) {
-        return basic::is_finite(plane.distance);
-    }
-    false
+    ray::close_to_unit_length(plane.normal) && basic::is_finite(plane.distance)
 }
 
 // The answer at a distance.
+#[tactic(auto, unfolding(crate::specs::Plane::plane_at))]
 fn plane_at(plane: Plane, ray: Ray, denominator: f64, distance: f64) -> Cast
     ensures { says result ≡ plane_at plane ray denominator distance }
 {
     if !basic::is_finite(distance) {
-        return Cast::Refused(answer::OVERFLOW);
+        return Err(Refusal::Overflow);
     }
     if surface::off_segment(ray, distance) {
-        return Cast::None;
+        return Ok(None);
     }
-    Cast::Hit {
+    Ok(Some(Hit {
         normal: surface::facing(plane.normal, denominator),
-        distance: distance,
-    }
+        distance,
+    }))
 }
 
 // The Rust's ray_plane, with nothing tested before it. Where the origin's dot is not finite the distance is not either, and refuses with
 // the same number: the dot is not tested by itself.
+#[tactic(auto, using(crate::proofs::LateTests::height_tested_late), unfolding(crate::specs::Plane::plane_cast))]
 pub fn plane_cast(plane: Plane, ray: Ray) -> Cast
     ensures { says result ≡ plane_cast plane ray }
 {
     let along = ray.direction.checked_dot(plane.normal);
-    let Checked::Value(denominator) = along else {
-        return Cast::Refused(answer::OVERFLOW);
+    let Some(denominator) = along else {
+        return Err(Refusal::Overflow);
     };
     // 32 · 2^-52
     if basic::abs(denominator) <= 7.105427357601002e-15 {
-        return Cast::None;
+        return Ok(None);
     }
     let height = ray.origin.dot(plane.normal);
     plane_at(
@@ -65,14 +65,15 @@ pub fn plane_cast(plane: Plane, ray: Ray) -> Cast
 }
 
 // The cast of any ray at any plane.
+#[tactic(auto, unfolding(crate::specs::Plane::ray_plane))]
 pub fn ray_plane(plane: Plane, ray: Ray) -> Cast
     ensures { says result ≡ ray_plane plane ray }
 {
     if !ray.validate() {
-        return Cast::Refused(answer::INVALID_INPUT);
+        return Err(Refusal::InvalidInput);
     }
     if !is_admitted(plane) {
-        return Cast::Refused(answer::BAD_SHAPE);
+        return Err(Refusal::BadShape);
     }
     plane_cast(plane, ray)
 }

@@ -7,13 +7,11 @@ use geometry::ray::Ray;
 use vectors::vec3::Vec3;
 
 // Whether a distance is below near or above the maximum; NaN is neither.
+#[tactic(auto, unfolding(crate::specs::Surface::off_segment))]
 pub fn off_segment(ray: Ray, distance: f64) -> bool
     ensures { result ≡ off_segment ray distance }
 {
-    if distance < ray.near {
-        return true;
-    }
-    distance > ray.max_distance
+    distance < ray.near || distance > ray.max_distance
 }
 
 // -1 where a normal is to be flipped, and else 1.
@@ -27,6 +25,7 @@ fn side(along: f64) -> f64
 }
 
 // A component, flipped where `along` is positive: a product with 1 or -1 is exact, and takes no choice between vectors.
+#[tactic(auto, using(crate::proofs::SideLaws::times_side))]
 fn flipped(x: f64, along: f64) -> f64
     ensures { result ≡ cond (lt zeroᶠ along) (neg x) x }
 {
@@ -34,6 +33,7 @@ fn flipped(x: f64, along: f64) -> f64
 }
 
 // The normal, flipped where `along`, its dot with the direction, is positive: it faces the ray.
+#[tactic(auto, using(crate::proofs::SideLaws::flipped_each), unfolding(crate::specs::Surface::facing))]
 pub fn facing(normal: Vec3, along: f64) -> Vec3
     ensures { result ≡ facing normal along }
 {
@@ -46,6 +46,7 @@ pub fn facing(normal: Vec3, along: f64) -> Vec3
 
 // The same, where `flips` tells beforehand whether the normal is to be flipped. It nearly always tells right, and a jump tells that it
 // does, so that what is done with the normal need not wait for `along`; whatever it tells, the normal faces the ray.
+#[tactic(auto, unfolding(crate::specs::Surface::facing, vectors::specs::Vector::neg_of))]
 pub fn facing_as(normal: Vec3, along: f64, flips: bool) -> Vec3
     ensures { result ≡ facing normal along }
 {

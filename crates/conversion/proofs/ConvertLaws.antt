@@ -9,10 +9,10 @@ use lib.ListN.{length, drop}
 use lib.Seq.{sets, sets-eq}
 use Rattle.float_forms.specs.declared.forms.Form.{Form}
 use Rattle.record_bytes.specs.declared.shape.Plan.{Plan}
-use Rattle.record_bytes.specs.declared.shape.Planned.TheVariants.{Malformed}
+use Rattle.std.specs.Prelude.{None}
 use Rattle.float_forms.specs.Forms.{size_of, rays_of}
 use Rattle.float_forms.specs.Bytes.{numbers_of}
-use Rattle.record_bytes.specs.Records.{body_length, counts_place, said_of, well_formed, every_said}
+use Rattle.record_bytes.specs.Records.{body_length, counts_place, said_of, every_said}
 use Rattle.float_forms.specs.Representable.{every, representable}
 use Rattle.conversion.specs.Writing.{rewritten}
 use Rattle.conversion.specs.Convert.{said_representable, written, refused, converted}
@@ -44,7 +44,7 @@ size_is p q l plan r s = rw (s.counts_are, s.numbers_are, s.indices_are) (sym (r
 
 -- ---- the answers
 
-pub malformed : (p q : Form) (l area : List ℕ) → planned p l ≡ Malformed → record { answer = refused 2; area = area } ≡ converted p q l area
+pub malformed : (p q : Form) (l area : List ℕ) → planned p l ≡ None → record { answer = refused 2; area = area } ≡ converted p q l area
 unfolding converted
 malformed p q l area e = rw (not_formed p l e)
 

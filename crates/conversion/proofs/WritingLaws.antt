@@ -16,6 +16,7 @@ use Rattle.record_bytes.specs.Records.{body_length, kind_of, counts_place, count
 use Rattle.record_bytes.specs.Records.{said_of, fields_bytes, record_bytes, every_said}
 use Rattle.float_forms.specs.Representable.{every}
 use Rattle.conversion.specs.Writing.{rewritten}
+use Rattle.record_bytes.specs.Kinds.{byte_of}
 use Rattle.record_bytes.specs.Plans.{size_for}
 use Rattle.float_forms.proofs.Numbers.{word_length}
 use Rattle.float_forms.proofs.RunLaws.{numbers_count, words_count, numbers_length, words_length}
@@ -70,7 +71,7 @@ run_behind p q n i j l e = ap (λ (k : ℕ). i + k) (run_length p q n l) ∙ sym
 
 module _ (p q : Form) (l out : List ℕ) (plan : Plan) (r : rays_of p ≡ rays_of q) (s : Sizes p l plan) where
   front : ℕ → List ℕ
-  front body = word_bytes body ++ (version_of q ∷ (plan.kind ∷ []))
+  front body = word_bytes body ++ (version_of q ∷ (byte_of plan.kind ∷ []))
 
   middle : List ℕ
   middle = numbers_bytes q (numbers_of p (rays_of p) (drop 6 l)) ++ words_bytes (words_of plan.counts (drop (counts_place p) l))
@@ -87,7 +88,7 @@ module _ (p q : Form) (l out : List ℕ) (plan : Plan) (r : rays_of p ≡ rays_o
 
   front_length : (body : ℕ) → length (front body) ≡ 6
   unfolding front
-  front_length body = omega (arith, length-append (word_bytes body) (version_of q ∷ (plan.kind ∷ [])), word_length body)
+  front_length body = omega (arith, length-append (word_bytes body) (version_of q ∷ (byte_of plan.kind ∷ [])), word_length body)
 
   middle_length : length middle ≡ size_of q * rays_of q + 4 * plan.counts
   unfolding middle
@@ -106,7 +107,7 @@ module _ (p q : Form) (l out : List ℕ) (plan : Plan) (r : rays_of p ≡ rays_o
 
   pub all_written : (o1 o2 o3 : List ℕ) (body from to : ℕ) → body ≡ size_for q plan → from ≡ counts_place p + 4 * plan.counts
       → to ≡ counts_place q + 4 * plan.counts
-      → o1 ≡ sets out 0 (word_bytes body ++ (version_of q ∷ (plan.kind ∷ [])))
+      → o1 ≡ sets out 0 (word_bytes body ++ (version_of q ∷ (byte_of plan.kind ∷ [])))
       → o2 ≡ sets o1 6
       (numbers_bytes q (numbers_of p (rays_of p) (drop 6 l)) ++ words_bytes (words_of plan.counts (drop (counts_place p) l)))
       → o3 ≡ sets o2 to

@@ -1,10 +1,9 @@
 -- The converter, in either direction: from the form p to the form q. Definitions only. Assumes nothing.
-use Rattle.std.specs.Prelude.{ℕ, Bool, cond, List, ◌++◌, ltb, length, drop}
-use Rattle.casts.specs.Answer.{bad_shape, no_room, not_representable}
+use Rattle.std.specs.Prelude.{ℕ, Bool, cond, List, ◌++◌, ltb, length, drop, Result, Ok, Err}
+use Rattle.casts.specs.declared.answer.Refusal.{Refusal}
+use Rattle.casts.specs.Answer.{bad_shape, no_room, not_representable, number_of}
 use Rattle.float_forms.specs.declared.forms.Form.{Form}
 use Rattle.float_forms.specs.declared.forms.Form.TheVariants.{Long, Short}
-use Rattle.float_forms.specs.declared.forms.Converted.{Converted}
-use Rattle.float_forms.specs.declared.forms.Converted.TheVariants.{Written, Refused}
 use Rattle.float_forms.specs.Representable.{representable}
 use Rattle.record_bytes.specs.Records.{Said, said_of, well_formed, every_said}
 use Rattle.conversion.specs.Writing.{rewritten}
@@ -19,9 +18,9 @@ pub data Answer : Type 0 where
   refused : ℕ → Answer
 
 -- what each case of the code's answer says
-abbrev pub says : Converted → Answer
-says (Written length) = written length
-says (Refused number) = refused number
+abbrev pub says : Result ℕ Refusal → Answer
+says (Ok length) = written length
+says (Err refusal) = refused (number_of refusal)
 
 -- the answer, and the output area as the call returns
 pub record Outcome : Type 0 where

@@ -4,22 +4,24 @@ ghost use Rattle.float_forms.specs.Forms.{size_of, rays_of, version_of};
 ghost use Rattle.float_forms.specs.Bytes.{word_bytes, numbers_of, numbers_bytes, words_of, words_bytes};
 ghost use Rattle.float_forms.specs.Representable.{every, fits_in};
 ghost use Rattle.record_bytes.specs.Records.{said_of, said_fits};
+ghost use Rattle.record_bytes.specs.Kinds.{byte_of};
 ghost use Rattle.record_bytes.specs.Plans.{Known, size_for};
 ghost use Rattle.conversion.specs.Writing.{rewritten};
 
 use float_forms::forms::Form;
-use float_forms::{bytes, forms, runs};
+use float_forms::{bytes, runs};
+use record_bytes::kind::Kind;
 use record_bytes::shape;
 use record_bytes::shape::Plan;
 
 // The length bytes, the version and the kind.
-fn write_head(q: Form, kind: u8, body: usize, out: &mut [u8])
+fn write_head(q: Form, kind: Kind, body: usize, out: &mut [u8])
     requires { (6 ≤ length out.old) × (body < 4294967296) }
-    ensures { out.new ≡ sets out.old 0 (word_bytes body ++ (version_of q ∷ (kind ∷ []))) }
+    ensures { out.new ≡ sets out.old 0 (word_bytes body ++ (version_of q ∷ (byte_of kind ∷ []))) }
 {
     bytes::put_word(out, 0, body as u64);
-    out[4] = forms::version_of(q);
-    out[5] = kind;
+    out[4] = u8::from(q);
+    out[5] = u8::from(kind);
 }
 
 // The ray's floats, and the counts.
@@ -33,7 +35,7 @@ fn write_ray(p: Form, q: Form, source: &[u8], counts: usize, out: &mut [u8])
 {
     let from = shape::numbers_place(p, 0);
     let to = shape::numbers_place(q, 0);
-    runs::put_floats(p, q, source, 6, forms::ray_count(p), out, 6);
+    runs::put_floats(p, q, source, 6, p.ray_count(), out, 6);
     runs::put_words(source, from, counts, out, to);
 }
 

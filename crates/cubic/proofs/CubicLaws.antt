@@ -2,7 +2,7 @@
 use mathlib.Core.Path.{◌≡◌, refl, sym, ap, subst, ◌∙◌}
 use mathlib.Core.Bool.{Bool, true, false, cond}
 use mathlib.Core.List.{List, [], ◌∷◌, ◌++◌}
-use Prim.Native.Nat.{ℕ, zero, suc, ◌-◌, ◌≤◌, ◌<◌}
+use Prim.Native.Nat.{ℕ, zero, suc, ◌+◌, ◌-◌, ◌≤◌, ◌<◌}
 use native.Mathlib.Omega.{arith}
 use lib.Ieee.{Float, of_bits, lt, le, ne, neg}
 use Rattle.arithmetic.specs.Basic.{absolute}
@@ -14,12 +14,10 @@ use Rattle.cubic.specs.Polynomial.{twoᶠ, threeᶠ, fourᶠ}
 use Rattle.cubic.specs.Turns.{listed, between_ends, kept_point, kept_points, vertex, turning_by, turning_points, extrema, AllBetween}
 use Rattle.cubic.specs.Turns.{none_left, one_more}
 use Rattle.cubic.specs.Halving.{halve, halvings, settled}
-use Rattle.cubic.specs.Roots.{insert, sorted, points, search_on, search_from, search_list}
+use Rattle.cubic.specs.Roots.{Root, None, insert, sorted, points, search_on, search_from, search_list}
 use Rattle.cubic.specs.declared.polynomial.Cubic.{Cubic}
 use Rattle.cubic.specs.declared.turns.Turns.{Turns}
 use Rattle.cubic.specs.declared.turns.Turns.TheVariants.{None as NoPoint, One, Two}
-use Rattle.cubic.specs.declared.roots.Root.{Root}
-use Rattle.cubic.specs.declared.roots.Root.TheVariants.{None}
 use Rattle.cubic.specs.declared.halving.Halving.{Halving}
 use Rattle.cubic.specs.declared.halving.Halving.TheVariants.{Found}
 use Rattle.lists.proofs.JoinedTests.{and_first, and_second}
@@ -31,20 +29,20 @@ module _ (p : Cubic) (tolerance : Float) where
   found_stays zero u = refl
   found_stays (suc n) u = found_stays n u
 
-  one_turn : (n : ℕ) (h : Halving) → 0 < n → halvings p tolerance n h ≡ halvings p tolerance (n - 1) (halve p tolerance h)
+  one_turn : (n m : ℕ) (h : Halving) → m + 1 ≡ n → halvings p tolerance n h ≡ halvings p tolerance m (halve p tolerance h)
   unfolding halvings
-  one_turn zero h l = absurd (omega arith)
-  one_turn (suc n) h l = let e : n ≡ suc n - 1 = omega arith in ap (λ (k : ℕ). halvings p tolerance k (halve p tolerance h)) e
+  one_turn zero m h l = absurd (omega arith)
+  one_turn (suc n) m h l = let e : n ≡ m = omega arith in ap (λ (k : ℕ). halvings p tolerance k (halve p tolerance h)) e
 
-  pub turn_open : (n : ℕ) (h next whole : Halving) → halvings p tolerance n h ≡ whole → 0 < n → next ≡ halve p tolerance h → halvings p
-      tolerance (n - 1) next ≡ whole
-  turn_open n h next whole i l e = ap (λ (k : Halving). halvings p tolerance (n - 1) k) e ∙ sym (one_turn n h l) ∙ i
+  pub turn_open : (n m : ℕ) (h next whole : Halving) → halvings p tolerance n h ≡ whole → m + 1 ≡ n → next ≡ halve p tolerance h
+      → halvings p tolerance m next ≡ whole
+  turn_open n m h next whole i l e = ap (λ (k : Halving). halvings p tolerance m k) e ∙ sym (one_turn n m h l) ∙ i
 
   pub turn_found : (n : ℕ) (h whole : Halving) (u : Float) → halvings p tolerance n h ≡ whole → 0 < n → Found u ≡ halve p tolerance h → u ≡
       settled whole
   turn_found n h whole u i l e =
       unfold settled in
-      ap settled (sym (found_stays (n - 1) u) ∙ turn_open n h (Found u) whole i l e)
+      ap settled (sym (found_stays (n - 1) u) ∙ turn_open n (n - 1) h (Found u) whole i (omega arith) e)
 
   pub turn_last : (n : ℕ) (h whole : Halving) → halvings p tolerance n h ≡ whole → n ≤ 0 → settled h ≡ settled whole
   turn_last zero h whole i l = ap settled (unfold halvings in i)

@@ -1,5 +1,5 @@
 -- The first root of the cubic through four samples. Definitions only. Assumes nothing.
-use Rattle.std.specs.Prelude.{cond, List, [], ◌∷◌, Float, get_or}
+use Rattle.std.specs.Prelude.{cond, List, [], ◌∷◌, Float, get_or, Option, Some, None as NoPoint, Result, Ok, Err}
 use Rattle.std.specs.Bool.{beq}
 use Rattle.std.specs.Float.{nan}
 use Rattle.std.specs.Float.Ieee.{le}
@@ -11,8 +11,22 @@ use Rattle.cubic.specs.Turns.{extrema}
 use Rattle.cubic.specs.Halving.{halvings, settled}
 use Rattle.cubic.specs.declared.polynomial.Cubic.{Cubic}
 use Rattle.cubic.specs.declared.halving.Halving.TheVariants.{Open}
-use Rattle.cubic.specs.declared.roots.Root.{Root}
-use Rattle.cubic.specs.declared.roots.Root.TheVariants.{At, None, Overflow}
+use Rattle.cubic.specs.declared.roots.Overflow.{Overflow as NotFinite}
+
+-- where between 0 and 1 a root lies
+pub data Root : Type 0 where
+  At : Float → Root
+  None : Root
+  Overflow : Root
+
+-- what the code's answers say
+abbrev pub says_found : Option Float → Root
+says_found (Some u) = At u
+says_found NoPoint = None
+
+abbrev pub says_root : Result (Option Float) NotFinite → Root
+says_root (Ok found) = says_found found
+says_root (Err refusal) = Overflow
 
 -- ---- sorted in totalOrder
 

@@ -5,13 +5,15 @@ use crate::polynomial;
 use crate::polynomial::Cubic;
 use arithmetic::basic;
 
-// The interval after a halving, with the value at its low end, or a point within the tolerance.
+// The interval after a halving, with the value at its low end, or a point within the tolerance: two states of a search, neither of which
+// is a refusal.
 #[derive(Clone, Copy)]
 pub enum Halving {
     Open { low: f64, high: f64, low_value: f64 },
     Found(f64),
 }
 
+#[tactic(auto, unfolding(crate::specs::Halving::middle_of))]
 fn middle_of(low: f64, high: f64) -> f64
     ensures { result ≡ middle_of low high }
 {
@@ -19,6 +21,7 @@ fn middle_of(low: f64, high: f64) -> f64
 }
 
 // One halving: the half whose ends differ in sign, unless the middle is within the tolerance.
+#[tactic(auto, unfolding(crate::specs::Halving::halve, crate::specs::Halving::halve_at))]
 fn halve(cubic: Cubic, tolerance: f64, low: f64, high: f64, low_value: f64) -> Halving
     ensures { result ≡ halve cubic tolerance (Halving.Open low high low_value) }
 {
@@ -30,14 +33,14 @@ fn halve(cubic: Cubic, tolerance: f64, low: f64, high: f64, low_value: f64) -> H
     if basic::is_sign_positive(value) == basic::is_sign_positive(low_value) {
         return Halving::Open {
             low: middle,
-            high: high,
+            high,
             low_value: value,
         };
     }
     Halving::Open {
-        low: low,
+        low,
         high: middle,
-        low_value: low_value,
+        low_value,
     }
 }
 
@@ -48,10 +51,8 @@ pub fn halvings(cubic: Cubic, tolerance: f64, start: f64, end: f64, start_value:
     let mut low = start;
     let mut high = end;
     let mut low_value = start_value;
-    let mut left: u32 = 64;
-    while left > 0 {
-        let next = halve(cubic, tolerance, low, high, low_value);
-        match next {
+    for turn in 0..64_u32 {
+        match halve(cubic, tolerance, low, high, low_value) {
             Halving::Found(u) => return u,
             Halving::Open {
                 low: l,
@@ -63,7 +64,6 @@ pub fn halvings(cubic: Cubic, tolerance: f64, start: f64, end: f64, start_value:
                 low_value = v;
             }
         }
-        left -= 1;
     }
     middle_of(low, high)
 }

@@ -14,6 +14,7 @@ pub struct Cubic {
 }
 
 // The cubic through four values at 0, 1/3, 2/3 and 1.
+#[tactic(auto, unfolding(crate::specs::Polynomial::cubic_of, crate::specs::Polynomial::cubic_by))]
 pub fn cubic_of(y0: f64, y1: f64, y2: f64, y3: f64) -> Cubic
     ensures { result ≡ cubic_of y0 y1 y2 y3 }
 {
@@ -28,21 +29,17 @@ pub fn cubic_of(y0: f64, y1: f64, y2: f64, y3: f64) -> Cubic
     }
 }
 
+#[tactic(auto, unfolding(crate::specs::Polynomial::finite_cubic))]
 pub fn finite_cubic(cubic: Cubic) -> bool
     ensures { result ≡ finite_cubic cubic }
 {
-    if !basic::is_finite(cubic.a) {
-        return false;
-    }
-    if !basic::is_finite(cubic.b) {
-        return false;
-    }
-    if !basic::is_finite(cubic.c) {
-        return false;
-    }
-    basic::is_finite(cubic.d)
+    basic::is_finite(cubic.a)
+        && basic::is_finite(cubic.b)
+        && basic::is_finite(cubic.c)
+        && basic::is_finite(cubic.d)
 }
 
+#[tactic(auto, unfolding(crate::specs::Polynomial::evaluate))]
 pub fn evaluate(cubic: Cubic, u: f64) -> f64
     ensures { result ≡ evaluate cubic u }
 {
@@ -50,6 +47,7 @@ pub fn evaluate(cubic: Cubic, u: f64) -> f64
 }
 
 // How small a value counts as zero.
+#[tactic(auto, unfolding(crate::specs::Polynomial::root_tolerance))]
 pub fn root_tolerance(cubic: Cubic) -> f64
     ensures { result ≡ root_tolerance cubic }
 {

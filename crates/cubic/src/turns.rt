@@ -5,7 +5,7 @@ use crate::polynomial::Cubic;
 use arithmetic::{basic, extremes, square_root};
 use vectors::numbers;
 
-// The points strictly between 0 and 1 where a cubic may turn.
+// The points strictly between 0 and 1 where a cubic may turn: a list of two at most, which needs no heap.
 #[derive(Clone, Copy)]
 pub enum Turns {
     None,
@@ -14,16 +14,15 @@ pub enum Turns {
 }
 
 // Strictly between 0 and 1.
+#[tactic(auto, unfolding(crate::specs::Turns::between_ends))]
 fn between_ends(u: f64) -> bool
     ensures { result ≡ between_ends u }
 {
-    if u > 0.0 {
-        return u < 1.0;
-    }
-    false
+    u > 0.0 && u < 1.0
 }
 
 // Those of two points that lie strictly between 0 and 1.
+#[tactic(auto, unfolding(crate::specs::Turns::kept_points, crate::specs::Turns::kept_point))]
 fn kept_points(first: f64, second: f64) -> Turns
     ensures { listed result ≡ kept_points first second }
 {
@@ -40,6 +39,7 @@ fn kept_points(first: f64, second: f64) -> Turns
 }
 
 // The point where a parabola turns; a line has none.
+#[tactic(auto, unfolding(crate::specs::Turns::vertex, crate::specs::Turns::kept_point))]
 fn vertex(derivative_b: f64, c: f64) -> Turns
     ensures { listed result ≡ vertex derivative_b c }
 {
@@ -48,12 +48,12 @@ fn vertex(derivative_b: f64, c: f64) -> Turns
         if between_ends(root) {
             return Turns::One(root);
         }
-        return Turns::None;
     }
     Turns::None
 }
 
 // The points where a cubic turns: the roots of its derivative.
+#[tactic(auto, unfolding(crate::specs::Turns::turning_points, crate::specs::Turns::turning_by))]
 fn turning_points(derivative_a: f64, derivative_b: f64, c: f64) -> Turns
     ensures { listed result ≡ turning_points derivative_a derivative_b c }
 {
@@ -69,6 +69,7 @@ fn turning_points(derivative_a: f64, derivative_b: f64, c: f64) -> Turns
 }
 
 // The points strictly between 0 and 1 where a cubic turns. One with hardly a cubic term counts as a parabola.
+#[tactic(auto, unfolding(crate::specs::Turns::extrema))]
 pub fn extrema(cubic: Cubic) -> Turns
     ensures { listed result ≡ extrema cubic }
 {

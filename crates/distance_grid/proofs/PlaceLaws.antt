@@ -24,10 +24,10 @@ use Rattle.distance_grid.specs.Places.{place_of, place_at, locate_axis, with_pla
 use Rattle.distance_grid.specs.Places.{is_fraction, Fractions}
 use Rattle.distance_grid.specs.declared.grid.Sides.{Sides}
 use Rattle.distance_grid.specs.declared.grid.Grid.{Grid}
-use Rattle.distance_grid.specs.declared.places.Place.{Place}
-use Rattle.distance_grid.specs.declared.places.Place.TheVariants.{At as PlaceAt, Overflow as NoPlace}
-use Rattle.distance_grid.specs.declared.places.Located.{Located}
-use Rattle.distance_grid.specs.declared.places.Located.TheVariants.{At, Refused}
+use Rattle.distance_grid.specs.Places.{Place}
+use Rattle.distance_grid.specs.Places.{PlaceAt, NoPlace}
+use Rattle.distance_grid.specs.Places.{Located}
+use Rattle.distance_grid.specs.Places.{LocatedAt as At, NotLocated as Refused}
 use Rattle.distance_grid.proofs.CellLaws.{up_to_least}
 use Rattle.distance_grid.proofs.NearLaws.{near_is_cell}
 use Rattle.arithmetic.proofs.RoundedNumbers.{round_number}

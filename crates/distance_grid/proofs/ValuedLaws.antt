@@ -13,8 +13,7 @@ use Rattle.arithmetic.proofs.Order.{not_lt_of_le, le_transitive}
 use Rattle.vectors.specs.Numbers.{◌-ᶠ◌, ◌*ᶠ◌, zeroᶠ, oneᶠ}
 use Rattle.vectors.specs.Vector.{finite_vec}
 use Rattle.vectors.specs.declared.vec3.Vec3.{Vec3}
-use Rattle.vectors.specs.declared.vec3.Checked.{Checked}
-use Rattle.vectors.specs.declared.vec3.Checked.TheVariants.{Value}
+use Rattle.std.specs.Prelude.{Option, Some}
 use Rattle.vectors.proofs.Constants.{one_is}
 use Rattle.distance_grid.specs.Faces.{low_x, high_x, low_y, high_y}
 use Rattle.distance_grid.specs.Steps.{checked, blend, lerp, checked_difference, over, lerp_face, value_on, slope_on}
@@ -23,7 +22,7 @@ use Rattle.distance_grid.specs.Valued.{value_of, across, cell_value, most, least
 use Rattle.distance_grid.specs.Places.{is_fraction, Fractions}
 use Rattle.distance_grid.specs.Valued.{fair_side, fair_spacing}
 use Rattle.distance_grid.specs.declared.faces.Face.{Face}
-use Rattle.distance_grid.specs.declared.valued.Valued.TheVariants.{At as ValuedAt}
+use Rattle.distance_grid.specs.Valued.{ValuedAt}
 use Rattle.lists.proofs.JoinedTests.{and_first, and_second}
 use Rattle.arithmetic.proofs.Bounds.{Within, within, Beyond, beyond, within_finite, wider, sum_within, difference_within, product_within}
 use Rattle.arithmetic.proofs.Bounds.{quotient_within}
@@ -113,10 +112,10 @@ face_within f h =
 -- ---- the steps
 
 -- a step that did not refuse, and how large its number is at most
-data Got : ℕ → Checked → Type 0 where
-  got : {k : ℕ} {x : Float} → Within k x → Got k (Value x)
+data Got : ℕ → Option Float → Type 0 where
+  got : {k : ℕ} {x : Float} → Within k x → Got k (Some x)
 
-checked_got : {k : ℕ} {x : Float} → Within k x → checked x ≡ Value x
+checked_got : {k : ℕ} {x : Float} → Within k x → checked x ≡ Some x
 unfolding checked
 checked_got p = simp (within_finite p)
 
@@ -128,18 +127,18 @@ blend_within {k} {a} {b} {t} l p q r =
     let right : Within (k + 1) (b *ᶠ t) = wider {k = k + 0} {j = k + 1} (omega arith) (product_within {k = k} {j = 0} (omega arith) q r) in
     wider {k = suc (k + 1)} {j = k + 2} (omega arith) (sum_within {k = k + 1} (omega arith) left right)
 
-lerp_is : {k : ℕ} {a b t : Float} → k + 2 ≤ 1023 → Within k a → Within k b → Within 0 t → lerp (Value a) (Value b) t ≡ Value (blend a b t)
+lerp_is : {k : ℕ} {a b t : Float} → k + 2 ≤ 1023 → Within k a → Within k b → Within 0 t → lerp (Some a) (Some b) t ≡ Some (blend a b t)
 unfolding lerp
 lerp_is l p q r = checked_got (blend_within l p q r)
 
-lerp_got : {k : ℕ} {c d : Checked} {t : Float} → k + 2 ≤ 1023 → Got k c → Got k d → Within 0 t → Got (k + 2) (lerp c d t)
+lerp_got : {k : ℕ} {c d : Option Float} {t : Float} → k + 2 ≤ 1023 → Got k c → Got k d → Within 0 t → Got (k + 2) (lerp c d t)
 lerp_got l (got p) (got q) r = subst (Got _) (sym (lerp_is l p q r)) (got (blend_within l p q r))
 
 difference_got : {k : ℕ} {a b : Float} → suc k ≤ 1023 → Within k a → Within k b → Got (suc k) (checked_difference a b)
 unfolding checked_difference
 difference_got l p q = subst (Got _) (sym (checked_got (difference_within l p q))) (got (difference_within l p q))
 
-over_got : {k j : ℕ} {c : Checked} {spacing : Float} → k + j ≤ 1023 → Got k c → Beyond j spacing → Got (k + j) (over c spacing)
+over_got : {k j : ℕ} {c : Option Float} {spacing : Float} → k + j ≤ 1023 → Got k c → Beyond j spacing → Got (k + j) (over c spacing)
 unfolding over
 over_got l (got p) b = got (quotient_within l p b)
 
@@ -149,20 +148,20 @@ unfolding across
 across_within f s t w p q = blend_within {k = 502} (lit≤ tt) (blend_within {k = 500} (lit≤ tt) w.w00 w.w10 p)
     (blend_within {k = 500} (lit≤ tt) w.w01 w.w11 p) q
 
-value_on_is : (f : Face) (s t : Float) → FaceWithin f → Within 0 s → Within 0 t → value_on f s t ≡ Value (across f s t)
+value_on_is : (f : Face) (s t : Float) → FaceWithin f → Within 0 s → Within 0 t → value_on f s t ≡ Some (across f s t)
 unfolding value_on lerp_face across
 value_on_is f s t w p q =
-    ap (λ (c : Checked). lerp c (lerp (Value f.a01) (Value f.a11) s) t) (lerp_is {k = 500} (lit≤ tt) w.w00 w.w10 p)
-    ∙ ap (λ (c : Checked). lerp (Value (blend f.a00 f.a10 s)) c t) (lerp_is {k = 500} (lit≤ tt) w.w01 w.w11 p)
+    ap (λ (c : Option Float). lerp c (lerp (Some f.a01) (Some f.a11) s) t) (lerp_is {k = 500} (lit≤ tt) w.w00 w.w10 p)
+    ∙ ap (λ (c : Option Float). lerp (Some (blend f.a00 f.a10 s)) c t) (lerp_is {k = 500} (lit≤ tt) w.w01 w.w11 p)
     ∙ lerp_is {k = 502} (lit≤ tt) (blend_within {k = 500} (lit≤ tt) w.w00 w.w10 p)
     (blend_within {k = 500} (lit≤ tt) w.w01 w.w11 p) q
 
 value_is : (low high : Face) (at : Vec3) → FaceWithin low → FaceWithin high → Within 0 at.x → Within 0 at.y → Within 0 at.z
-    → lerp (value_on low at.x at.y) (value_on high at.x at.y) at.z ≡ Value (cell_value low high at)
+    → lerp (value_on low at.x at.y) (value_on high at.x at.y) at.z ≡ Some (cell_value low high at)
 unfolding cell_value
 value_is low high at v w p q r =
-    ap (λ (c : Checked). lerp c (value_on high at.x at.y) at.z) (value_on_is low at.x at.y v p q)
-    ∙ ap (λ (c : Checked). lerp (Value (across low at.x at.y)) c at.z) (value_on_is high at.x at.y w p q)
+    ap (λ (c : Option Float). lerp c (value_on high at.x at.y) at.z) (value_on_is low at.x at.y v p q)
+    ∙ ap (λ (c : Option Float). lerp (Some (across low at.x at.y)) c at.z) (value_on_is high at.x at.y w p q)
     ∙ lerp_is {k = 504} (lit≤ tt) (across_within low at.x at.y v p q) (across_within high at.x at.y w p q) r
 
 -- ---- the gradient
@@ -178,8 +177,8 @@ slope_got low high spacing s t v w b p q =
     (lerp_got {k = 1001} (lit≤ tt) (quotient_got w.w01 v.w01 b) (quotient_got w.w11 v.w11 b) p)
     q
 
-gathered_value : (v : Float) {k : ℕ} {on_x on_y on_z : Checked} → Got k on_x → Got k on_y → Got k on_z
-    → value_of (gathered (Value v) on_x on_y on_z)
+gathered_value : (v : Float) {k : ℕ} {on_x on_y on_z : Option Float} → Got k on_x → Got k on_y → Got k on_z
+    → value_of (gathered (Some v) on_x on_y on_z)
     ≡ ValuedAt v
 unfolding gathered finite_vec
 gathered_value v (got p) (got q) (got r) = simp (within_finite p, within_finite q, within_finite r)
@@ -197,7 +196,7 @@ tested_value low high spacing at f l h b =
     let y = fraction_within at.y f.on_y in
     let z = fraction_within at.z f.on_z in
     let yz = and_second (fair_side spacing.x) (fair_side spacing.y && fair_side spacing.z) b in
-    ap (λ (c : Checked). value_of (gathered c (slope_on (low_x low high) (high_x low high) spacing.x at.y at.z) (slope_on (low_y low
+    ap (λ (c : Option Float). value_of (gathered c (slope_on (low_x low high) (high_x low high) spacing.x at.y at.z) (slope_on (low_y low
     high) (high_y low high) spacing.y at.x at.z) (slope_on low high spacing.z at.x at.y)))
     (value_is low high at v w x y z)
     ∙ gathered_value (cell_value low high at)

@@ -1,5 +1,5 @@
 -- The cell at a point of the grid, and where in it the point lies. Definitions only. Assumes nothing.
-use Rattle.std.specs.Prelude.{ℕ, ◌+◌, ◌-◌, ◌≡◌, Bool, true, false, ◌&&◌, cond, ltb, Float}
+use Rattle.std.specs.Prelude.{ℕ, ◌+◌, ◌-◌, ◌≡◌, Bool, true, false, ◌&&◌, cond, ltb, Float, Option, Some, None}
 use Rattle.std.specs.Float.Ieee.{lt, le}
 use Rattle.arithmetic.specs.Basic.{is_finite, clamp_to}
 use Rattle.arithmetic.specs.Below.{just_below}
@@ -10,10 +10,29 @@ use Rattle.vectors.specs.declared.vec3.Vec3.{Vec3}
 use Rattle.casts.specs.Answer.{overflow}
 use Rattle.distance_grid.specs.Grid.{whole, last_node}
 use Rattle.distance_grid.specs.declared.grid.Grid.{Grid}
-use Rattle.distance_grid.specs.declared.places.Place.{Place}
-use Rattle.distance_grid.specs.declared.places.Place.TheVariants.{At as PlaceAt, Overflow as NoPlace}
-use Rattle.distance_grid.specs.declared.places.Located.{Located}
-use Rattle.distance_grid.specs.declared.places.Located.TheVariants.{At, Refused}
+use Rattle.distance_grid.specs.declared.places.Place.{Place as CodePlace}
+use Rattle.distance_grid.specs.declared.places.Located.{Located as CodeLocated}
+
+-- ---- what is found
+
+-- a cell of one axis and where in it a point lies, or that the coordinate is not finite
+pub data Place : Type 0 where
+  PlaceAt : ℕ → Float → Place
+  NoPlace : Place
+
+-- a cell of the grid and where in it a point lies on each axis, or a refusal's number
+pub data Located : Type 0 where
+  LocatedAt : ℕ → Float → ℕ → Float → ℕ → Float → Located
+  NotLocated : ℕ → Located
+
+-- what the code's answers say: it finds no place only where a number is not finite
+abbrev pub says_place : Option CodePlace → Place
+says_place (Some p) = PlaceAt p.cell p.fraction
+says_place None = NoPlace
+
+abbrev pub says_located : Option CodeLocated → Located
+says_located (Some l) = LocatedAt l.x.cell l.x.fraction l.y.cell l.y.fraction l.z.cell l.z.fraction
+says_located None = NotLocated overflow
 
 -- ---- drawn onto the box
 
@@ -77,7 +96,7 @@ locate_axis point origin spacing side = place_at ((point -ᶠ origin) /ᶠ spaci
 
 abbrev pub with_place : Place → (ℕ → Float → Located) → Located
 with_place (PlaceAt cell fraction) next = next cell fraction
-with_place NoPlace next = Refused overflow
+with_place NoPlace next = NotLocated overflow
 
 unfoldable pub locate_inside : Grid → Vec3 → Located
 locate_inside g p =
@@ -86,11 +105,11 @@ locate_inside g p =
     with_place (locate_axis p.y g.origin.y g.spacing.y g.sides.y)
     (λ (y : ℕ) (ty : Float).
     with_place (locate_axis p.z g.origin.z g.spacing.z g.sides.z)
-    (λ (z : ℕ) (tz : Float). At x tx y ty z tz)))
+    (λ (z : ℕ) (tz : Float). LocatedAt x tx y ty z tz)))
 
 -- "a point that is not finite is still 6": before any coordinate is drawn
 unfoldable pub locate : Grid → Vec3 → Located
-locate g p = cond (finite_vec p) (locate_inside g (clamped_point g p)) (Refused overflow)
+locate g p = cond (finite_vec p) (locate_inside g (clamped_point g p)) (NotLocated overflow)
 
 -- what holds of the place in a cell: from 0 to 1 on each axis
 unfoldable pub is_fraction : Float → Bool

@@ -1,19 +1,27 @@
 -- The value of a sample without its gradient, and a cheap test after which no step of a sample refuses. Definitions only. Assumes nothing.
-use Rattle.std.specs.Prelude.{Bool, ◌&&◌, Float}
+use Rattle.std.specs.Prelude.{ℕ, Bool, ◌&&◌, Float, Option, Some, None}
 use Rattle.std.specs.Float.{binary64}
 use Rattle.std.specs.Float.Ieee.{of_bits, neg, le}
 use Rattle.vectors.specs.declared.vec3.Vec3.{Vec3}
+use Rattle.casts.specs.Answer.{overflow}
 use Rattle.distance_grid.specs.Steps.{blend}
 use Rattle.distance_grid.specs.declared.faces.Face.{Face}
-use Rattle.distance_grid.specs.declared.sampling.Sampled.{Sampled}
-use Rattle.distance_grid.specs.declared.sampling.Sampled.TheVariants.{At as SampledAt, Refused as SampleRefused}
-use Rattle.distance_grid.specs.declared.valued.Valued.{Valued}
-use Rattle.distance_grid.specs.declared.valued.Valued.TheVariants.{At, Refused}
+use Rattle.distance_grid.specs.Sampling.{Sampled, SampledAt, SampleRefused}
+
+-- the value of a sample, or a refusal's number
+pub data Valued : Type 0 where
+  ValuedAt : Float → Valued
+  NoValue : ℕ → Valued
+
+-- what the code's answer says: it gives no value only where a number is not finite
+abbrev pub says_valued : Option Float → Valued
+says_valued (Some value) = ValuedAt value
+says_valued None = NoValue overflow
 
 -- the gradient is forgotten; what it refuses is not
 abbrev pub value_of : Sampled → Valued
-value_of (SampledAt value gradient) = At value
-value_of (SampleRefused number) = Refused number
+value_of (SampledAt value gradient) = ValuedAt value
+value_of (SampleRefused number) = NoValue number
 
 -- ---- the value with no test of its steps
 unfoldable pub across : Face → Float → Float → Float

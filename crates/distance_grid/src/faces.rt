@@ -1,8 +1,7 @@
 ghost use Rattle.std.specs.Prelude.{◌≡◌, ◌+◌, ◌<◌};
-ghost use Rattle.distance_grid.specs.Grid.{Stands};
 ghost use Rattle.distance_grid.specs.Faces.{value_at, face_at, low_x, high_x, low_y, high_y};
 
-use crate::grid::Grid;
+use crate::field::DistanceGrid;
 
 // The four values at the corners of a cell's face: by the first axis, then by the second.
 #[derive(Clone, Copy)]
@@ -14,28 +13,31 @@ pub struct Face {
 }
 
 // The value at a node.
-fn value_at(grid: Grid, values: &[f64], x: u32, y: u32, z: u32) -> f64
-    requires { (Stands grid values.now) × ((x < grid.sides.x) × ((y < grid.sides.y) × (z < grid.sides.z))) }
-    ensures { result ≡ value_at grid values.now x y z }
+#[tactic(auto, using(crate::proofs::CellLaws::node_placed), unfolding(crate::specs::Faces::value_at))]
+fn value_at(field: &DistanceGrid, x: u32, y: u32, z: u32) -> f64
+    requires { (x < field.now.grid.sides.x) × ((y < field.now.grid.sides.y) × (z < field.now.grid.sides.z)) }
+    ensures { result ≡ value_at field.now.grid field.now.values.now x y z }
 {
-    let index = (z as usize * grid.sides.y as usize + y as usize) * grid.sides.x as usize
-        + x as usize;
-    values[index]
+    let sides = field.grid.sides;
+    let index = (z as usize * sides.y as usize + y as usize) * sides.x as usize + x as usize;
+    field.values[index]
 }
 
 // The four values of a cell at one z.
-pub fn face_at(grid: Grid, values: &[f64], x: u32, y: u32, z: u32) -> Face
-    requires { (Stands grid values.now) × ((x + 1 < grid.sides.x) × ((y + 1 < grid.sides.y) × (z < grid.sides.z))) }
-    ensures { result ≡ face_at grid values.now x y z }
+#[tactic(auto, unfolding(crate::specs::Faces::face_at))]
+pub fn face_at(field: &DistanceGrid, x: u32, y: u32, z: u32) -> Face
+    requires { (x + 1 < field.now.grid.sides.x) × ((y + 1 < field.now.grid.sides.y) × (z < field.now.grid.sides.z)) }
+    ensures { result ≡ face_at field.now.grid field.now.values.now x y z }
 {
     Face {
-        a00: value_at(grid, values, x, y, z),
-        a10: value_at(grid, values, x + 1, y, z),
-        a01: value_at(grid, values, x, y + 1, z),
-        a11: value_at(grid, values, x + 1, y + 1, z),
+        a00: value_at(field, x, y, z),
+        a10: value_at(field, x + 1, y, z),
+        a01: value_at(field, x, y + 1, z),
+        a11: value_at(field, x + 1, y + 1, z),
     }
 }
 
+// Each of the four names other fields: one function over the fields would be no plainer.
 // The face toward lower x, of the faces toward lower and higher z.
 pub fn low_x(low: Face, high: Face) -> Face
     ensures { result ≡ low_x low high }

@@ -4,6 +4,8 @@
 
 // Grid, which are admitted, and its box.
 pub mod grid;
+// DistanceGrid, a grid and its values.
+pub mod field;
 // The cell at a point of the grid.
 pub mod places;
 

@@ -1,54 +1,44 @@
 ghost use Rattle.std.specs.Prelude.{◌≡◌, ◌+◌, ◌<◌};
-ghost use Rattle.distance_grid.specs.Grid.{Stands};
-ghost use Rattle.distance_grid.specs.Sampling.{gathered, sample_faces, sample_cell, sample};
+ghost use Rattle.distance_grid.specs.Sampling.{says_sampled, gathered, sample_faces, sample_cell, sample};
 
 use crate::faces::Face;
-use crate::grid::Grid;
-use crate::places::{Located, Near};
+use crate::field::DistanceGrid;
+use crate::places::Cell;
 use crate::{faces, places, steps};
-use casts::answer;
-use vectors::vec3::{Checked, Vec3};
+use vectors::vec3::Vec3;
 
-// A value and its gradient, or a refusal's number.
+// A value and its gradient.
 #[derive(Clone, Copy)]
-pub enum Sampled {
-    At { value: f64, gradient: Vec3 },
-    Refused(u32),
+pub struct Sampled {
+    pub value: f64,
+    pub gradient: Vec3,
 }
 
-// A sample's value and slopes; the first that was refused counts.
-fn gathered(value: Checked, on_x: Checked, on_y: Checked, on_z: Checked) -> Sampled
-    ensures { result ≡ gathered value on_x on_y on_z }
+// A sample's value and slopes, unless a step refused one of them.
+#[tactic(auto, unfolding(crate::specs::Sampling::gathered))]
+fn gathered(
+    value: Option<f64>,
+    on_x: Option<f64>,
+    on_y: Option<f64>,
+    on_z: Option<f64>,
+) -> Option<Sampled>
+    ensures { says_sampled result ≡ gathered value on_x on_y on_z }
 {
-    let Checked::Value(v) = value else {
-        return Sampled::Refused(answer::OVERFLOW);
-    };
-    let Checked::Value(dx) = on_x else {
-        return Sampled::Refused(answer::OVERFLOW);
-    };
-    let Checked::Value(dy) = on_y else {
-        return Sampled::Refused(answer::OVERFLOW);
-    };
-    let Checked::Value(dz) = on_z else {
-        return Sampled::Refused(answer::OVERFLOW);
-    };
-    let gradient = Vec3 {
-        x: dx,
-        y: dy,
-        z: dz,
-    };
+    let value = value?;
+    let x = on_x?;
+    let y = on_y?;
+    let z = on_z?;
+    let gradient = Vec3 { x, y, z };
     if !gradient.is_finite() {
-        return Sampled::Refused(answer::OVERFLOW);
+        return None;
     }
-    Sampled::At {
-        value: v,
-        gradient: gradient,
-    }
+    Some(Sampled { value, gradient })
 }
 
 // The sample in a cell, from its faces toward lower and higher z.
-pub fn sample_faces(low: Face, high: Face, spacing: Vec3, at: Vec3) -> Sampled
-    ensures { result ≡ sample_faces low high spacing at }
+#[tactic(auto, unfolding(crate::specs::Sampling::sample_faces))]
+pub fn sample_faces(low: Face, high: Face, spacing: Vec3, at: Vec3) -> Option<Sampled>
+    ensures { says_sampled result ≡ sample_faces low high spacing at }
 {
     let on_low = steps::value_on(low, at.x, at.y);
     let on_high = steps::value_on(high, at.x, at.y);
@@ -73,41 +63,21 @@ pub fn sample_faces(low: Face, high: Face, spacing: Vec3, at: Vec3) -> Sampled
 }
 
 // The sample in a cell of the grid.
-fn sample_cell(grid: Grid, values: &[f64], x: u32, y: u32, z: u32, at: Vec3) -> Sampled
-    requires { (Stands grid values.now) × ((x + 1 < grid.sides.x) × ((y + 1 < grid.sides.y) × (z + 1 < grid.sides.z))) }
-    ensures { result ≡ sample_cell grid values.now x y z at }
+#[tactic(auto, unfolding(crate::specs::Sampling::sample_cell))]
+fn sample_cell(field: &DistanceGrid, cell: Cell, at: Vec3) -> Option<Sampled>
+    requires { (cell.x + 1 < field.now.grid.sides.x) × ((cell.y + 1 < field.now.grid.sides.y) × (cell.z + 1 < field.now.grid.sides.z)) }
+    ensures { says_sampled result ≡ sample_cell field.now.grid field.now.values.now cell.x cell.y cell.z at }
 {
-    let low = faces::face_at(grid, values, x, y, z);
-    let high = faces::face_at(grid, values, x, y, z + 1);
-    sample_faces(low, high, grid.spacing, at)
+    let low = faces::face_at(field, cell.x, cell.y, cell.z);
+    let high = faces::face_at(field, cell.x, cell.y, cell.z + 1);
+    sample_faces(low, high, field.grid.spacing, at)
 }
 
 // The sample at any point; one outside the box is clamped to it.
-pub fn sample(grid: Grid, values: &[f64], point: Vec3) -> Sampled
-    requires { Stands grid values.now }
-    ensures { result ≡ sample grid values.now point }
+#[tactic(auto, unfolding(crate::specs::Sampling::sample))]
+pub fn sample(field: &DistanceGrid, point: Vec3) -> Option<Sampled>
+    ensures { says_sampled result ≡ sample field.now.grid field.now.values.now point }
 {
-    let place = places::locate(grid, point, Near { x: 0, y: 0, z: 0 });
-    match place {
-        Located::Refused(number) => Sampled::Refused(number),
-        Located::At {
-            x,
-            tx,
-            y,
-            ty,
-            z,
-            tz,
-        } => sample_cell(
-            grid,
-            values,
-            x,
-            y,
-            z,
-            Vec3 {
-                x: tx,
-                y: ty,
-                z: tz,
-            },
-        ),
-    }
+    let place = places::locate(field.grid, point, Cell { x: 0, y: 0, z: 0 })?;
+    sample_cell(field, place.cell(), place.fractions())
 }

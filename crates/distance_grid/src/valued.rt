@@ -1,74 +1,49 @@
 ghost use Rattle.std.specs.Prelude.{◌≡◌, ◌+◌, ◌<◌};
-ghost use Rattle.distance_grid.specs.Grid.{Stands};
 ghost use Rattle.distance_grid.specs.Sampling.{sample_faces, sample_cell, sample};
-ghost use Rattle.distance_grid.specs.Valued.{value_of, across, cell_value, small_value, small_face, fair_side, fair_spacing};
+ghost use Rattle.distance_grid.specs.Valued.{says_valued, value_of, across, cell_value, small_value, small_face, fair_side, fair_spacing};
 ghost use Rattle.distance_grid.specs.Places.{Fractions};
 
 use crate::faces::Face;
-use crate::grid::Grid;
-use crate::places::{Located, Near};
-use crate::sampling::Sampled;
+use crate::field::DistanceGrid;
+use crate::places::Cell;
 use crate::{faces, places, sampling, steps};
 use vectors::vec3::Vec3;
-
-// The value of a sample, or a refusal's number.
-#[derive(Clone, Copy)]
-pub enum Valued {
-    At(f64),
-    Refused(u32),
-}
 
 // 2^500 and 2^-500
 const MOST: f64 = 3.273390607896142e150;
 
 const LEAST: f64 = 3.054936363499605e-151;
 
+#[tactic(auto, unfolding(crate::specs::Valued::small_value))]
 fn small_value(x: f64) -> bool
     ensures { result ≡ small_value x }
 {
-    if x <= MOST {
-        return -MOST <= x;
-    }
-    false
+    x <= MOST && -MOST <= x
 }
 
+#[tactic(auto, unfolding(crate::specs::Valued::small_face))]
 fn small_face(face: Face) -> bool
     ensures { result ≡ small_face face }
 {
-    if !small_value(face.a00) {
-        return false;
-    }
-    if !small_value(face.a10) {
-        return false;
-    }
-    if !small_value(face.a01) {
-        return false;
-    }
-    small_value(face.a11)
+    small_value(face.a00) && small_value(face.a10) && small_value(face.a01) && small_value(face.a11)
 }
 
+#[tactic(auto, unfolding(crate::specs::Valued::fair_side))]
 fn fair_side(spacing: f64) -> bool
     ensures { result ≡ fair_side spacing }
 {
-    if LEAST <= spacing {
-        return spacing <= MOST;
-    }
-    false
+    LEAST <= spacing && spacing <= MOST
 }
 
+#[tactic(auto, unfolding(crate::specs::Valued::fair_spacing))]
 fn fair_spacing(spacing: Vec3) -> bool
     ensures { result ≡ fair_spacing spacing }
 {
-    if !fair_side(spacing.x) {
-        return false;
-    }
-    if !fair_side(spacing.y) {
-        return false;
-    }
-    fair_side(spacing.z)
+    fair_side(spacing.x) && fair_side(spacing.y) && fair_side(spacing.z)
 }
 
 // The number between the four of a face, whatever it is.
+#[tactic(auto, unfolding(crate::specs::Valued::across))]
 fn across(face: Face, s: f64, t: f64) -> f64
     ensures { result ≡ across face s t }
 {
@@ -80,6 +55,7 @@ fn across(face: Face, s: f64, t: f64) -> f64
 }
 
 // The value in a cell, from its faces toward lower and higher z, whatever it is.
+#[tactic(auto, unfolding(crate::specs::Valued::cell_value))]
 fn cell_value(low: Face, high: Face, at: Vec3) -> f64
     ensures { result ≡ cell_value low high at }
 {
@@ -87,69 +63,43 @@ fn cell_value(low: Face, high: Face, at: Vec3) -> f64
 }
 
 // The value in a cell where any step may refuse.
-fn value_by_steps(low: Face, high: Face, spacing: Vec3, at: Vec3) -> Valued
-    ensures { result ≡ value_of (sample_faces low high spacing at) }
+fn value_by_steps(low: Face, high: Face, spacing: Vec3, at: Vec3) -> Option<f64>
+    ensures { says_valued result ≡ value_of (sample_faces low high spacing at) }
 {
-    let found = sampling::sample_faces(low, high, spacing, at);
-    match found {
-        Sampled::At { value, gradient: _ } => Valued::At(value),
-        Sampled::Refused(number) => Valued::Refused(number),
-    }
+    let sample = sampling::sample_faces(low, high, spacing, at)?;
+    Some(sample.value)
 }
 
 // The value in a cell. Where no value is huge and no spacing huge or tiny no step overflows, and the gradient is not computed.
-fn value_of_faces(low: Face, high: Face, spacing: Vec3, at: Vec3) -> Valued
+#[tactic(auto, using(crate::proofs::ValuedLaws::tested_value))]
+fn value_of_faces(low: Face, high: Face, spacing: Vec3, at: Vec3) -> Option<f64>
     requires { Fractions at }
-    ensures { result ≡ value_of (sample_faces low high spacing at) }
+    ensures { says_valued result ≡ value_of (sample_faces low high spacing at) }
 {
-    if !small_face(low) {
-        return value_by_steps(low, high, spacing, at);
+    if small_face(low) && small_face(high) && fair_spacing(spacing) {
+        return Some(cell_value(low, high, at));
     }
-    if !small_face(high) {
-        return value_by_steps(low, high, spacing, at);
-    }
-    if !fair_spacing(spacing) {
-        return value_by_steps(low, high, spacing, at);
-    }
-    Valued::At(cell_value(low, high, at))
+    value_by_steps(low, high, spacing, at)
 }
 
 // The value in a cell of the grid.
-fn value_in_cell(grid: Grid, values: &[f64], x: u32, y: u32, z: u32, at: Vec3) -> Valued
-    requires { (Stands grid values.now) × ((x + 1 < grid.sides.x) × ((y + 1 < grid.sides.y) × ((z + 1 < grid.sides.z) × (Fractions at)))) }
-    ensures { result ≡ value_of (sample_cell grid values.now x y z at) }
+#[tactic(auto, unfolding(crate::specs::Sampling::sample_cell))]
+fn value_in_cell(field: &DistanceGrid, cell: Cell, at: Vec3) -> Option<f64>
+    requires inside { (cell.x + 1 < field.now.grid.sides.x) × ((cell.y + 1 < field.now.grid.sides.y)
+        × (cell.z + 1 < field.now.grid.sides.z)) }
+    requires fractions { Fractions at }
+    ensures { says_valued result ≡ value_of (sample_cell field.now.grid field.now.values.now cell.x cell.y cell.z at) }
 {
-    let low = faces::face_at(grid, values, x, y, z);
-    let high = faces::face_at(grid, values, x, y, z + 1);
-    value_of_faces(low, high, grid.spacing, at)
+    let low = faces::face_at(field, cell.x, cell.y, cell.z);
+    let high = faces::face_at(field, cell.x, cell.y, cell.z + 1);
+    value_of_faces(low, high, field.grid.spacing, at)
 }
 
 // The value at any point: the sample's, with all that the sample refuses.
-pub fn value_of(grid: Grid, values: &[f64], point: Vec3, near: Near) -> Valued
-    requires { Stands grid values.now }
-    ensures { result ≡ value_of (sample grid values.now point) }
+#[tactic(auto, unfolding(crate::specs::Sampling::sample))]
+pub fn value_of(field: &DistanceGrid, point: Vec3, near: Cell) -> Option<f64>
+    ensures { says_valued result ≡ value_of (sample field.now.grid field.now.values.now point) }
 {
-    let place = places::locate(grid, point, near);
-    match place {
-        Located::Refused(number) => Valued::Refused(number),
-        Located::At {
-            x,
-            tx,
-            y,
-            ty,
-            z,
-            tz,
-        } => value_in_cell(
-            grid,
-            values,
-            x,
-            y,
-            z,
-            Vec3 {
-                x: tx,
-                y: ty,
-                z: tz,
-            },
-        ),
-    }
+    let place = places::locate(field.grid, point, near)?;
+    value_in_cell(field, place.cell(), place.fractions())
 }

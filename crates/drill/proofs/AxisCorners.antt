@@ -1,6 +1,6 @@
 -- Three corners from the axis: the facts that moving a point rests on. Assumes nothing.
 use mathlib.Core.Path.{refl}
-use lib.IntN.{ℤ, pos, neg_ℤ, ◌*ℤ◌}
+use lib.IntN.{pos, neg_ℤ, ◌*ℤ◌}
 use Rattle.exact_depth.specs.declared.projection.Point.{Point}
 use Rattle.exact_triangle.specs.Line.{parts, Line}
 use Rattle.drill.specs.Drill.{dot, square}

@@ -11,7 +11,7 @@ use Rattle.vectors.specs.declared.vec3.Vec3.{Vec3}
 use Rattle.exact_depth.specs.declared.projection.Point.{Point}
 use Rattle.exact_triangle.specs.Line.{parts, Line, Moves}
 use Rattle.exact_triangle.specs.Shear.{from}
-use Rattle.exact_triangle.specs.Grid.{within, grid_point}
+use Rattle.exact_triangle.specs.Grid.{grid_point}
 use Rattle.exact_triangle.proofs.Touching.{Sizes, finite_at}
 use Rattle.drill.specs.Drill.{dot, square, Within, mixed, InDrill}
 use Rattle.drill.specs.Box.{drill_box}

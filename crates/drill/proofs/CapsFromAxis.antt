@@ -6,6 +6,7 @@ use Rattle.exact_triangle.specs.Line.{parts, Line}
 use Rattle.drill.specs.Drill.{dot, square}
 use Rattle.drill.specs.Decision.{FromAxis, from_axis, cross, level}
 use Rattle.drill.proofs.Identities as Identities
+use Rattle.drill.proofs.Turns.{Coordinate, X, Y, Z, of, turn_all, turn_two}
 use Rattle.drill.proofs.Weighing.{Weights, total, sum_of, sideways, upward, inward}
 use Rattle.drill.proofs.Interiors.{leveled}
 use Rattle.drill.proofs.Caps.{CapFacts, cap_point}
@@ -88,40 +89,14 @@ module _ (l : Line) (p q r : Point) where
       all_is : all u v w ≡ (dx *ℤ pos 0 -ℤ gx *ℤ D) *ℤ T
       two_is : two u v w ≡ neg_ℤ (gx *ℤ W -ℤ pos 0 *ℤ nx)
 
-    turns_x : Turns a.moment.x b.moment.x c.moment.x d.x g.x
+    turns : (k : Coordinate) → Turns (of k a.moment) (of k b.moment) (of k c.moment) (of k d) (of k g)
     unfolding from_axis
-    turns_x = record {
-      nx = (cross p q).x +ℤ (cross q r).x +ℤ (cross r p).x;
-      all_is =
-          Identities.turn_all_x g.x g.y g.z p.x p.y p.z q.x q.y q.z r.x r.y r.z d.x d.y d.z
-          ∙ ap (λ (z : ℤ). (d.x *ℤ z -ℤ g.x *ℤ D) *ℤ T) across;
+    turns k = record {
+      nx = of k (cross p q) +ℤ of k (cross q r) +ℤ of k (cross r p);
+      all_is = turn_all k g p q r d ∙ ap (λ (z : ℤ). (of k d *ℤ z -ℤ of k g *ℤ D) *ℤ T) across;
       two_is =
-          Identities.turn_two_x g.x g.y g.z p.x p.y p.z q.x q.y q.z r.x r.y r.z d.x d.y d.z
-          ∙ ap (λ (z : ℤ). neg_ℤ (g.x *ℤ W -ℤ z *ℤ ((cross p q).x +ℤ (cross q r).x +ℤ (cross r p).x))) across;
-    }
-
-    turns_y : Turns a.moment.y b.moment.y c.moment.y d.y g.y
-    unfolding from_axis
-    turns_y = record {
-      nx = (cross p q).y +ℤ (cross q r).y +ℤ (cross r p).y;
-      all_is =
-          Identities.turn_all_y g.x g.y g.z p.x p.y p.z q.x q.y q.z r.x r.y r.z d.x d.y d.z
-          ∙ ap (λ (z : ℤ). (d.y *ℤ z -ℤ g.y *ℤ D) *ℤ T) across;
-      two_is =
-          Identities.turn_two_y g.x g.y g.z p.x p.y p.z q.x q.y q.z r.x r.y r.z d.x d.y d.z
-          ∙ ap (λ (z : ℤ). neg_ℤ (g.y *ℤ W -ℤ z *ℤ ((cross p q).y +ℤ (cross q r).y +ℤ (cross r p).y))) across;
-    }
-
-    turns_z : Turns a.moment.z b.moment.z c.moment.z d.z g.z
-    unfolding from_axis
-    turns_z = record {
-      nx = (cross p q).z +ℤ (cross q r).z +ℤ (cross r p).z;
-      all_is =
-          Identities.turn_all_z g.x g.y g.z p.x p.y p.z q.x q.y q.z r.x r.y r.z d.x d.y d.z
-          ∙ ap (λ (z : ℤ). (d.z *ℤ z -ℤ g.z *ℤ D) *ℤ T) across;
-      two_is =
-          Identities.turn_two_z g.x g.y g.z p.x p.y p.z q.x q.y q.z r.x r.y r.z d.x d.y d.z
-          ∙ ap (λ (z : ℤ). neg_ℤ (g.z *ℤ W -ℤ z *ℤ ((cross p q).z +ℤ (cross q r).z +ℤ (cross r p).z))) across;
+          turn_two k g p q r d
+          ∙ ap (λ (z : ℤ). neg_ℤ (of k g *ℤ W -ℤ z *ℤ (of k (cross p q) +ℤ of k (cross q r) +ℤ of k (cross r p)))) across;
     }
 
     abbrev S : ℤ
@@ -168,11 +143,11 @@ module _ (l : Line) (p q r : Point) where
         s_c = s_is ta tb tc near_flat r;
         own = own_is ta tb tc near_flat;
         at_x = near_at ta tb tc near_flat a.moment.x b.moment.x c.moment.x d.x (g ta tb tc near_flat).x
-            (turns_x ta tb tc near_flat) ν;
+            (turns ta tb tc near_flat X) ν;
         at_y = near_at ta tb tc near_flat a.moment.y b.moment.y c.moment.y d.y (g ta tb tc near_flat).y
-            (turns_y ta tb tc near_flat) ν;
+            (turns ta tb tc near_flat Y) ν;
         at_z = near_at ta tb tc near_flat a.moment.z b.moment.z c.moment.z d.z (g ta tb tc near_flat).z
-            (turns_z ta tb tc near_flat) ν;
+            (turns ta tb tc near_flat Z) ν;
       }
 
   -- ---- the far cap
@@ -209,9 +184,9 @@ module _ (l : Line) (p q r : Point) where
         s_c = s_is ta tb tc far_flat r;
         own = own_is ta tb tc far_flat;
         at_x = at a.moment.x b.moment.x c.moment.x
-            ∙ far_at ta tb tc far_flat a.moment.x b.moment.x c.moment.x d.x γ.x (turns_x ta tb tc far_flat) ν;
+            ∙ far_at ta tb tc far_flat a.moment.x b.moment.x c.moment.x d.x γ.x (turns ta tb tc far_flat X) ν;
         at_y = at a.moment.y b.moment.y c.moment.y
-            ∙ far_at ta tb tc far_flat a.moment.y b.moment.y c.moment.y d.y γ.y (turns_y ta tb tc far_flat) ν;
+            ∙ far_at ta tb tc far_flat a.moment.y b.moment.y c.moment.y d.y γ.y (turns ta tb tc far_flat Y) ν;
         at_z = at a.moment.z b.moment.z c.moment.z
-            ∙ far_at ta tb tc far_flat a.moment.z b.moment.z c.moment.z d.z γ.z (turns_z ta tb tc far_flat) ν;
+            ∙ far_at ta tb tc far_flat a.moment.z b.moment.z c.moment.z d.z γ.z (turns ta tb tc far_flat Z) ν;
       }

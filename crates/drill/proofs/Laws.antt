@@ -1,5 +1,5 @@
 -- Whole numbers as the code's words hold them. Assumes nothing.
-use mathlib.Core.Path.{◌≡◌, sym, ap, ◌∙◌, subst}
+use mathlib.Core.Path.{◌≡◌, refl, sym, ap, ◌∙◌, subst}
 use mathlib.Core.Bool.{Bool, true, false, not, ◌&&◌, ◌||◌}
 use Prim.Native.Nat.{ℕ, ◌+◌, ◌*◌, ◌^◌, ◌≤◌, ◌<◌}
 use native.Mathlib.Nat.{lt_of_le_of_lt}
@@ -101,6 +101,27 @@ or_hit b h = sym (ap (λ (x : Bool). x || b) h)
 
 pub or_miss : {a b s : Bool} → a ≡ false → s ≡ b → s ≡ (a || b)
 or_miss {b = b} h e = e ∙ sym (ap (λ (x : Bool). x || b) h)
+
+-- a joined test, by its first part, which is p, and its second, where it is asked
+pub or_taken : {v u p : Bool} (q : Bool) → u ≡ p → v ≡ u → u ≡ true → v ≡ (p || q)
+or_taken q e f h = f ∙ h ∙ or_hit q (sym e ∙ h)
+
+pub or_passed : {v u p q : Bool} → u ≡ p → u ≡ false → v ≡ q → v ≡ (p || q)
+or_passed e h f = or_miss (sym e ∙ h) f
+
+-- tests joined from the left
+pub or_nested : (p q r : Bool) → ((p || q) || r) ≡ (p || (q || r))
+or_nested true q r = refl
+or_nested false q r = refl
+
+-- a test and what `not` says of it
+pub not_true : {r : Bool} → not r ≡ true → r ≡ false
+not_true {r = true} h = sym h
+not_true {r = false} h = refl
+
+pub not_false : {r : Bool} → not r ≡ false → r ≡ true
+not_false {r = true} h = refl
+not_false {r = false} h = sym h
 
 pub negative_off : {r : Bool} (z : ℤ) → r ≡ lt_z z (pos 0) → r ≡ true → le_z (pos 0) z ≡ false
 negative_off z e h = sym (at_most_told (pos 0) z) ∙ ap not (sym e ∙ h)

@@ -1,5 +1,6 @@
 -- Laws about the drill at a triangle, and of the code that decides it. Assumes nothing.
 pub mod Identities
+pub mod Turns
 pub mod Moves
 pub mod Weighing
 pub mod Multiples

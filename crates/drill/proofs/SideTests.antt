@@ -1,13 +1,13 @@
 -- What the tests of corners and sides come to, one law for each place where the code answers. Assumes nothing.
 use mathlib.Core.Path.{◌≡◌, refl, sym, ◌∙◌}
-use mathlib.Core.Bool.{Bool, true, false, ◌&&◌, ◌||◌}
+use mathlib.Core.Bool.{Bool, true, false, ◌&&◌}
 use Prim.Native.Nat.{ℕ, ◌*◌}
 use lib.IntN.{ℤ, pos, neg_ℤ, ◌+ℤ◌, ◌-ℤ◌, ◌*ℤ◌}
 use lib.Signed.{lt_z, le_z}
 use Rattle.exact_depth.specs.declared.projection.Point.{Point}
 use Rattle.drill.specs.Drill.{dot, square}
-use Rattle.drill.specs.Decision.{cross, scale, minus, FromAxis, corner_in, apart, crossing_in, foot_in, side_in}
-use Rattle.drill.proofs.Laws.{and_off, and_on, or_hit, or_miss}
+use Rattle.drill.specs.Decision.{cross, scale, minus, FromAxis, corner_in, apart, crossing_in, foot_in}
+use Rattle.drill.proofs.Laws.{and_off, and_on}
 
 -- the last of three fails; the last of two passes
 last_fails : (p q : Bool) {r : Bool} → r ≡ false → false ≡ (p && (q && r))
@@ -87,21 +87,3 @@ module _ (ρ : ℕ) (d : Point) (p q : FromAxis) where
       → r ≡ foot_in ρ d p q
   unfolding foot_in
   foot_is h g k l e = and_on h (and_on g (and_on l (last_passes under k e)))
-
-module _ (ρ : ℕ) (d : Point) (R : ℤ) (p q : FromAxis) where
-  abbrev first : Bool
-  first = crossing_in R p.moment q.moment p.low q.low
-
-  abbrev second : Bool
-  second = crossing_in R p.moment q.moment p.high q.high
-
-  pub side_near : crossing_in R p.moment q.moment p.low q.low ≡ true → true ≡ side_in ρ d R p q
-  side_near h = or_hit (second || foot_in ρ d p q) h
-
-  pub side_far : crossing_in R p.moment q.moment p.low q.low ≡ false
-      → crossing_in R p.moment q.moment p.high q.high ≡ true → true ≡ side_in ρ d R p q
-  side_far h g = or_miss h (or_hit (foot_in ρ d p q) g)
-
-  pub side_is : {r : Bool} → crossing_in R p.moment q.moment p.low q.low ≡ false
-      → crossing_in R p.moment q.moment p.high q.high ≡ false → r ≡ foot_in ρ d p q → r ≡ side_in ρ d R p q
-  side_is h g e = or_miss h (or_miss g e)

@@ -1,7 +1,7 @@
 -- The decision from its parts. Assumes nothing.
 use mathlib.Core.Path.{◌≡◌, refl, sym, ap, ◌∙◌}
 use mathlib.Core.Bool.{Bool, true, false, cond, ◌&&◌, ◌||◌}
-use Prim.Native.Nat.{ℕ, zero, suc, ◌*◌}
+use Prim.Native.Nat.{ℕ, zero, suc}
 use lib.Signed.{lt_z, le_z}
 use lib.IntN.{ℤ, pos, negsuc, neg_ℤ, ◌+ℤ◌, ◌-ℤ◌, ◌*ℤ◌}
 use native.Mathlib.Omega.{arith}
@@ -12,7 +12,6 @@ use Rattle.exact_triangle.specs.Line.{Line}
 use Rattle.drill.specs.Drill.{dot, square}
 use Rattle.drill.specs.Decision.{FromAxis, corner_in, side_in, level, nearest_in, plane_in, touched_by}
 use Rattle.drill.specs.Code.{limit_of, outline_of, near_of, far_of, plane_of}
-use Rattle.drill.proofs.Laws.{or_hit, or_miss}
 
 nested : (p q r s t u v : Bool)
     → (p || (q || (r || (s || (t || (u || v)))))) ≡ ((p || (q || (r || (s || (t || u))))) || v)
@@ -42,35 +41,6 @@ module _ (l : Line) (ρ : ℕ) (a b c : FromAxis) where
 
   abbrev ca : Bool
   ca = side_in ρ l.direction R c a
-
-  pub outline_1 : corner_in (limit_of l ρ) a ≡ true → true ≡ outline_of l ρ a b c
-  unfolding outline_of
-  outline_1 e = or_hit (corner_in R b || (corner_in R c || (ab || (bc || ca)))) e
-
-  pub outline_2 : corner_in (limit_of l ρ) a ≡ false → corner_in (limit_of l ρ) b ≡ true → true ≡ outline_of l ρ a b c
-  unfolding outline_of
-  outline_2 h₁ e = or_miss h₁ (or_hit (corner_in R c || (ab || (bc || ca))) e)
-
-  pub outline_3 : corner_in (limit_of l ρ) a ≡ false → corner_in (limit_of l ρ) b ≡ false → corner_in (limit_of l ρ) c ≡ true
-      → true ≡ outline_of l ρ a b c
-  unfolding outline_of
-  outline_3 h₁ h₂ e = or_miss h₁ (or_miss h₂ (or_hit (ab || (bc || ca)) e))
-
-  module _ (h₁ : corner_in (limit_of l ρ) a ≡ false) (h₂ : corner_in (limit_of l ρ) b ≡ false)
-      (h₃ : corner_in (limit_of l ρ) c ≡ false) where
-    pub outline_4 : side_in ρ l.direction (limit_of l ρ) a b ≡ true → true ≡ outline_of l ρ a b c
-    unfolding outline_of
-    outline_4 e = or_miss h₁ (or_miss h₂ (or_miss h₃ (or_hit (bc || ca) e)))
-
-    pub outline_5 : side_in ρ l.direction (limit_of l ρ) a b ≡ false → side_in ρ l.direction (limit_of l ρ) b c ≡ true
-        → true ≡ outline_of l ρ a b c
-    unfolding outline_of
-    outline_5 h₄ e = or_miss h₁ (or_miss h₂ (or_miss h₃ (or_miss h₄ (or_hit ca e))))
-
-    pub outline_6 : {r : Bool} → side_in ρ l.direction (limit_of l ρ) a b ≡ false → side_in ρ l.direction (limit_of l ρ) b c ≡ false
-        → r ≡ side_in ρ l.direction (limit_of l ρ) c a → r ≡ outline_of l ρ a b c
-    unfolding outline_of
-    outline_6 h₄ h₅ e = or_miss h₁ (or_miss h₂ (or_miss h₃ (or_miss h₄ (or_miss h₅ e))))
 
 -- ---- the plane's point
 module _ (near far : Bool) (i j k f h : ℤ) where

@@ -10,9 +10,9 @@ use Rattle.drill.specs.Drill.{dot, square}
 use Rattle.drill.specs.Decision.{cross, minus, FromAxis, corner_in, side_in, cap_in, level, plane_in}
 use Rattle.drill.specs.declared.corner.Drill.{Drill}
 use Rattle.drill.specs.declared.corner.Corner.{Corner}
-use Rattle.drill.specs.declared.forms.Across.{Across}
-use Rattle.drill.specs.declared.inside.Way.{Way}
+use Rattle.drill.specs.declared.forms.Vector.{Vector}
 use Rattle.drill.specs.declared.inside.Steps.{Steps}
+use Rattle.drill.specs.declared.touch.Candidate.{Candidate}
 use Rattle.drill.specs.declared.touch.Pierce.{Pierce}
 use Rattle.drill.specs.declared.touch.Frame.{Frame}
 use Rattle.drill.specs.declared.sides.Weights.{Weights}
@@ -66,6 +66,10 @@ pub record CornerSized (p : Corner) : Type 0 where
   pub low : Sized (2 ^ 94) (value p.low)
   pub high : Sized (2 ^ 94) (value p.high)
 
+-- a drill and three corners whose numbers are small
+abbrev pub CandidateSized : Candidate → Type 0
+CandidateSized t = DrillSized t.drill × (CornerSized t.a × (CornerSized t.b × CornerSized t.c))
+
 -- the weights of a side's point that is nearest to the axis' line
 pub record FootOf (v w : Point) (r : Weights) : Type 0 where
   pub first : value r.first ≡ dot w (minus w v)
@@ -73,11 +77,11 @@ pub record FootOf (v w : Point) (r : Weights) : Type 0 where
   pub first_size : Sized (2 ^ 125) (value r.first)
   pub second_size : Sized (2 ^ 125) (value r.second)
 
--- a direction of three words each
-abbrev pub way_of : Way → Point
-way_of g = record { x = value g.x; y = value g.y; z = value g.z }
+-- a vector of three words each
+abbrev pub vector_of : Vector → Point
+vector_of g = record { x = value g.x; y = value g.y; z = value g.z }
 
-pub record WaySized (g : Way) : Type 0 where
+pub record WaySized (g : Vector) : Type 0 where
   pub x : Sized (2 ^ 94) (value g.x)
   pub y : Sized (2 ^ 94) (value g.y)
   pub z : Sized (2 ^ 94) (value g.z)
@@ -185,10 +189,7 @@ beyond L a b c =
 unfoldable pub outside : ℤ → ℤ → Bool
 outside m x = cond (lt_z m x) (lt_z (neg_ℤ m) x) (cond (lt_z x m) (lt_z x (neg_ℤ m)) false)
 
-abbrev pub across_of : Across → Point
-across_of p = record { x = value p.x; y = value p.y; z = value p.z }
-
-pub record AcrossSized (p : Across) : Type 0 where
+pub record AcrossSized (p : Vector) : Type 0 where
   pub x : Sized (2 ^ 158) (value p.x)
   pub y : Sized (2 ^ 158) (value p.y)
   pub z : Sized (2 ^ 158) (value p.z)

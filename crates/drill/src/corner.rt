@@ -61,21 +61,14 @@ pub fn corner_at(drill: Drill, p: Point) -> Corner
     requires { DrillSized drill × Near p }
     ensures { CornerSized result × ((l : Line) (ρ : ℕ) → Drills drill l ρ → from_axis_of result ≡ from_axis l (from l.origin p)) }
 {
-    let origin = drill.origin;
-    let direction = drill.direction;
-    let near = drill.near;
-    let far = drill.far;
-    let at = forms::from(origin, p);
-    let moment = forms::cross(at, direction);
-    let height = forms::height(at, direction);
-    let low = above(height, near);
-    let high = under(height, far);
+    let at = forms::from(drill.origin, p);
+    let height = forms::height(at, drill.direction);
     Corner {
         at,
-        moment,
+        moment: forms::cross(at, drill.direction),
         height,
-        low,
-        high,
+        low: above(height, drill.near),
+        high: under(height, drill.far),
     }
 }
 

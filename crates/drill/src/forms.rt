@@ -7,7 +7,7 @@ ghost use Rattle.exact_triangle.specs.Sizes.{SizedAt, Near};
 ghost use Rattle.exact_triangle.specs.Shear.{from};
 ghost use Rattle.drill.specs.Drill.{dot, square};
 ghost use Rattle.drill.specs.Decision.{cross, scale, minus};
-ghost use Rattle.drill.specs.Code.{outside, across_of, AcrossSized};
+ghost use Rattle.drill.specs.Code.{outside, vector_of, AcrossSized};
 
 use exact_depth::projection::Point;
 use wide_integers::number::Wide;
@@ -95,21 +95,22 @@ pub fn squares(x: Wide, y: Wide, z: Wide) -> Long
 
 // A vector of three words each.
 #[derive(Clone, Copy)]
-pub struct Across {
+pub struct Vector {
     pub x: Wide,
     pub y: Wide,
     pub z: Wide,
 }
 
 // f w - g v.
-pub fn crossing_at(v: Point, w: Point, f: Wide, g: Wide) -> Across
+pub fn crossing_at(v: Point, w: Point, f: Wide, g: Wide) -> Vector
     requires { Sized (2 ^ 94) (value f) × Sized (2 ^ 94) (value g) }
-    ensures { (across_of result ≡ minus (scale (value f) w) (scale (value g) v)) × AcrossSized result }
+    ensures { (vector_of result ≡ minus (scale (value f) w) (scale (value g) v)) × AcrossSized result }
 {
-    let x = blend(f, w.x, g, v.x);
-    let y = blend(f, w.y, g, v.y);
-    let z = blend(f, w.z, g, v.z);
-    Across { x, y, z }
+    Vector {
+        x: blend(f, w.x, g, v.x),
+        y: blend(f, w.y, g, v.y),
+        z: blend(f, w.z, g, v.z),
+    }
 }
 
 // Whether x is further from 0 than m.
@@ -128,24 +129,18 @@ fn outside(m: Wide, x: Wide) -> bool
 }
 
 // Whether a coordinate is further from 0 than m.
-pub fn far_across(m: Wide, p: Across) -> bool
+pub fn far_across(m: Wide, p: Vector) -> bool
     requires { Sized (2 ^ 158) (value m) }
     ensures { result ≡ (outside (value m) (value p.x)
         || (outside (value m) (value p.y) || outside (value m) (value p.z))) }
 {
-    if outside(m, p.x) {
-        return true;
-    }
-    if outside(m, p.y) {
-        return true;
-    }
-    outside(m, p.z)
+    outside(m, p.x) || outside(m, p.y) || outside(m, p.z)
 }
 
 // |p|².
-pub fn square_across(p: Across) -> Long
+pub fn square_across(p: Vector) -> Long
     requires { AcrossSized p }
-    ensures { long_value result ≡ square (across_of p) }
+    ensures { long_value result ≡ square (vector_of p) }
 {
     squares(p.x, p.y, p.z)
 }

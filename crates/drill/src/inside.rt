@@ -8,22 +8,15 @@ ghost use Rattle.exact_triangle.specs.Sizes.{SizedAt};
 ghost use Rattle.drill.specs.Drill.{dot, square};
 ghost use Rattle.drill.specs.Decision.{cross, cap_in, level};
 ghost use Rattle.exact_depth.specs.declared.projection.Point.{Point as AnyPoint};
-ghost use Rattle.drill.specs.Code.{way_of, WaySized, steps_of, StepsSized, StepsOf, Reversed, between};
+ghost use Rattle.drill.specs.Code.{vector_of, WaySized, steps_of, StepsSized, StepsOf, Reversed, between};
 
 use crate::forms;
+use crate::forms::Vector;
 use exact_depth::projection::Point;
 use exact_triangle::normal;
 use wide_integers::number::Wide;
 use wide_integers::triples::Long;
 use wide_integers::{long, number};
-
-// A direction.
-#[derive(Clone, Copy)]
-pub struct Way {
-    pub x: Wide,
-    pub y: Wide,
-    pub z: Wide,
-}
 
 // (p × q) · d.
 pub fn weight(p: Point, q: Point, d: Point) -> Wide
@@ -47,12 +40,12 @@ fn level_at(p: i64, q: i64, r: i64, a: i64, b: i64, c: i64) -> Wide
 }
 
 // The direction in which neither the heights p, q and r of a, b and c nor their plane are left.
-pub fn level(p: i64, q: i64, r: i64, a: Point, b: Point, c: Point) -> Way
+pub fn level(p: i64, q: i64, r: i64, a: Point, b: Point, c: Point) -> Vector
     requires { (Sized (3 * 2 ^ 60) p × (Sized (3 * 2 ^ 60) q × Sized (3 * 2 ^ 60) r))
         × (SizedAt (2 ^ 29) a × (SizedAt (2 ^ 29) b × SizedAt (2 ^ 29) c)) }
-    ensures { (way_of result ≡ level p q r a b c) × WaySized result }
+    ensures { (vector_of result ≡ level p q r a b c) × WaySized result }
 {
-    Way {
+    Vector {
         x: level_at(p, q, r, a.x, b.x, c.x),
         y: level_at(p, q, r, a.y, b.y, c.y),
         z: level_at(p, q, r, a.z, b.z, c.z),
@@ -60,9 +53,9 @@ pub fn level(p: i64, q: i64, r: i64, a: Point, b: Point, c: Point) -> Way
 }
 
 // p · g.
-fn along(p: Point, g: Way) -> Wide
+fn along(p: Point, g: Vector) -> Wide
     requires { SizedAt (2 ^ 29) p × WaySized g }
-    ensures { (value result ≡ dot p (way_of g)) × Sized (3 * 2 ^ 123) (value result) }
+    ensures { (value result ≡ dot p (vector_of g)) × Sized (3 * 2 ^ 123) (value result) }
 {
     number::weighted(g.x, p.x, g.y, p.y, g.z, p.z)
 }
@@ -76,19 +69,16 @@ fn turn(a: Wide, b: Wide, c: Wide, d: Wide) -> Long
 }
 
 // |g|².
-pub fn square(g: Way) -> Wide
+pub fn square(g: Vector) -> Wide
     requires { WaySized g }
-    ensures { value result ≡ square (way_of g) }
+    ensures { value result ≡ square (vector_of g) }
 {
-    let x = g.x;
-    let y = g.y;
-    let z = g.z;
     number::sum(
         number::sum(
-            long::short_pair_product(x, x),
-            long::short_pair_product(y, y),
+            long::short_pair_product(g.x, g.x),
+            long::short_pair_product(g.y, g.y),
         ),
-        long::short_pair_product(z, z),
+        long::short_pair_product(g.z, g.z),
     )
 }
 
@@ -113,10 +103,7 @@ fn cap_near(area: i64, length: Wide, k: Wide, whole: Wide) -> bool
     ensures { result ≡ (lt_z (pos 0) (value whole)
         && le_z (value k *ℤ value k *ℤ value length) (area *ℤ (pos parts *ℤ pos parts) *ℤ value whole)) }
 {
-    if !number::is_positive(whole) {
-        return false;
-    }
-    long::at_most(cap_distance(k, length), cap_limit(area, whole))
+    number::is_positive(whole) && long::at_most(cap_distance(k, length), cap_limit(area, whole))
 }
 
 // How far the corners are along a direction.
@@ -128,17 +115,14 @@ pub struct Steps {
 }
 
 // .. from a cap.
-pub fn steps_along(a: Point, b: Point, c: Point, g: Way) -> Steps
+pub fn steps_along(a: Point, b: Point, c: Point, g: Vector) -> Steps
     requires { (SizedAt (2 ^ 29) a × (SizedAt (2 ^ 29) b × SizedAt (2 ^ 29) c)) × WaySized g }
-    ensures { StepsOf a b c (way_of g) result }
+    ensures { StepsOf a b c (vector_of g) result }
 {
-    let first = along(a, g);
-    let second = along(b, g);
-    let third = along(c, g);
     Steps {
-        a: first,
-        b: second,
-        c: third,
+        a: along(a, g),
+        b: along(b, g),
+        c: along(c, g),
     }
 }
 
@@ -147,10 +131,11 @@ pub fn reversed(s: Steps) -> Steps
     requires { StepsSized s }
     ensures { Reversed s result }
 {
-    let a = number::negate(s.a);
-    let b = number::negate(s.b);
-    let c = number::negate(s.c);
-    Steps { a, b, c }
+    Steps {
+        a: number::negate(s.a),
+        b: number::negate(s.b),
+        c: number::negate(s.c),
+    }
 }
 
 // Whether the point nearest to a cap's centre, of the line in which the triangle's plane crosses the cap's, lies in the triangle: s is how
@@ -159,13 +144,9 @@ fn cap_between(s: Steps, f: Steps) -> bool
     requires { StepsSized s × StepsSized f }
     ensures { result ≡ between (steps_of s) (steps_of f) }
 {
-    if long::is_negative(turn(s.b, f.c, s.c, f.b)) {
-        return false;
-    }
-    if long::is_negative(turn(s.c, f.a, s.a, f.c)) {
-        return false;
-    }
-    !long::is_negative(turn(s.a, f.b, s.b, f.a))
+    !long::is_negative(turn(s.b, f.c, s.c, f.b))
+        && !long::is_negative(turn(s.c, f.a, s.a, f.c))
+        && !long::is_negative(turn(s.a, f.b, s.b, f.a))
 }
 
 // Whether that point lies in the triangle and within the radius.
@@ -175,8 +156,5 @@ pub fn cap_in(area: i64, length: Wide, whole: Wide, k: Wide, s: Steps, f: Steps)
         → steps_of s ≡ record { x = dot a g; y = dot b g; z = dot c g }
         → result ≡ cap_in ρ d g (value k) a b c (value f.a) (value f.b) (value f.c) }
 {
-    if !cap_between(s, f) {
-        return false;
-    }
-    cap_near(area, length, k, whole)
+    cap_between(s, f) && cap_near(area, length, k, whole)
 }

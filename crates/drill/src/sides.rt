@@ -18,26 +18,16 @@ use wide_integers::{long, number};
 pub fn corner_in(reach: Wide, p: Corner) -> bool
     ensures { result ≡ corner_in (value reach) (from_axis_of p) }
 {
-    let low = p.low;
-    if number::is_negative(low) {
-        return false;
-    }
-    let high = p.high;
-    if number::is_negative(high) {
-        return false;
-    }
-    let moment = p.moment;
-    number::at_most(normal::dot(moment, moment), reach)
+    !number::is_negative(p.low)
+        && !number::is_negative(p.high)
+        && number::at_most(normal::dot(p.moment, p.moment), reach)
 }
 
 // Whether one is below 0 and the other is not.
 fn apart(f: Wide, g: Wide) -> bool
     ensures { result ≡ apart (value f) (value g) }
 {
-    if number::is_negative(f) {
-        return !number::is_negative(g);
-    }
-    number::is_negative(g)
+    number::is_negative(f) != number::is_negative(g)
 }
 
 // Whether a side crosses a cap within the radius.
@@ -117,11 +107,7 @@ pub fn side_in(area: i64, d: Point, reach: Wide, side: i64, p: Corner, q: Corner
     ensures { (ρ : ℕ) → area ≡ pos (ρ * ρ) → SideOf (value reach) side
         → result ≡ side_in ρ d (value reach) (from_axis_of p) (from_axis_of q) }
 {
-    if crossing_in(reach, side, p.moment, q.moment, p.low, q.low) {
-        return true;
-    }
-    if crossing_in(reach, side, p.moment, q.moment, p.high, q.high) {
-        return true;
-    }
-    foot_in(area, d, p, q)
+    crossing_in(reach, side, p.moment, q.moment, p.low, q.low)
+        || crossing_in(reach, side, p.moment, q.moment, p.high, q.high)
+        || foot_in(area, d, p, q)
 }

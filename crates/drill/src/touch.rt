@@ -7,7 +7,7 @@ ghost use Rattle.exact_triangle.specs.Sizes.{SizedAt, Near};
 ghost use Rattle.drill.specs.Drill.{Decides};
 ghost use Rattle.drill.specs.Decision.{nearest_in, touched_by};
 ghost use Rattle.drill.specs.Code.{Drills, DrillSized, from_axis_of, CornerSized, PierceOf, PierceSized};
-ghost use Rattle.drill.specs.Code.{StepsSized, steps_of, FrameOf};
+ghost use Rattle.drill.specs.Code.{CandidateSized, StepsSized, steps_of, FrameOf};
 ghost use Rattle.drill.specs.Code.{outline_of, low_of, high_of, near_of, far_of, plane_of};
 
 use crate::corner::{Corner, Drill};
@@ -16,6 +16,15 @@ use crate::{corner, inside, reject, sides};
 use exact_depth::projection::Point;
 use wide_integers::number;
 use wide_integers::number::Wide;
+
+// A triangle that a drill may touch, by its corners from the axis.
+#[derive(Clone, Copy)]
+pub struct Candidate {
+    pub drill: Drill,
+    pub a: Corner,
+    pub b: Corner,
+    pub c: Corner,
+}
 
 // Where the axis' line crosses a triangle's plane: the weights of that point, their sum, and how far it is past near and before far.
 #[derive(Clone, Copy)]
@@ -71,13 +80,7 @@ fn crossing(a: Point, b: Point, c: Point, d: Point, near: i64, far: i64) -> Pier
 fn weights_in(i: Wide, j: Wide, k: Wide) -> bool
     ensures { result ≡ (le_z (pos 0) (value i) && (le_z (pos 0) (value j) && le_z (pos 0) (value k))) }
 {
-    if number::is_negative(i) {
-        return false;
-    }
-    if number::is_negative(j) {
-        return false;
-    }
-    !number::is_negative(k)
+    !number::is_negative(i) && !number::is_negative(j) && !number::is_negative(k)
 }
 
 // How far the corners are above near.
@@ -85,13 +88,10 @@ fn lows(a: Corner, b: Corner, c: Corner) -> Steps
     requires { CornerSized a × (CornerSized b × CornerSized c) }
     ensures { (steps_of result ≡ record { x = value a.low; y = value b.low; z = value c.low }) × StepsSized result }
 {
-    let first = a.low;
-    let second = b.low;
-    let third = c.low;
     Steps {
-        a: first,
-        b: second,
-        c: third,
+        a: a.low,
+        b: b.low,
+        c: c.low,
     }
 }
 
@@ -100,13 +100,10 @@ fn highs(a: Corner, b: Corner, c: Corner) -> Steps
     requires { CornerSized a × (CornerSized b × CornerSized c) }
     ensures { (steps_of result ≡ record { x = value a.high; y = value b.high; z = value c.high }) × StepsSized result }
 {
-    let first = a.high;
-    let second = b.high;
-    let third = c.high;
     Steps {
-        a: first,
-        b: second,
-        c: third,
+        a: a.high,
+        b: b.high,
+        c: c.high,
     }
 }
 
@@ -128,72 +125,72 @@ fn frame_of(a: Corner, b: Corner, c: Corner) -> Frame
 }
 
 // Whether the plane's point nearest to the near cap's centre, in that cap's plane, lies in the triangle and within the radius.
-fn near_cap(drill: Drill, a: Corner, b: Corner, c: Corner, low: Wide) -> bool
-    requires { (DrillSized drill × (CornerSized a × (CornerSized b × CornerSized c))) × Sized (2 ^ 126) (value low) }
-    ensures { (l : Line) (ρ : ℕ) → Drills drill l ρ → value low ≡ low_of l (from_axis_of a) (from_axis_of b) (from_axis_of c)
-        → result ≡ near_of l ρ (from_axis_of a) (from_axis_of b) (from_axis_of c) }
+fn near_cap(t: Candidate, low: Wide) -> bool
+    requires { CandidateSized t × Sized (2 ^ 126) (value low) }
+    ensures { (l : Line) (ρ : ℕ) → Drills t.drill l ρ → value low ≡ low_of l (from_axis_of t.a) (from_axis_of t.b) (from_axis_of t.c)
+        → result ≡ near_of l ρ (from_axis_of t.a) (from_axis_of t.b) (from_axis_of t.c) }
 {
-    let frame = frame_of(a, b, c);
+    let frame = frame_of(t.a, t.b, t.c);
     inside::cap_in(
-        drill.area,
-        drill.length,
+        t.drill.area,
+        t.drill.length,
         frame.whole,
         low,
         frame.steps,
-        lows(a, b, c),
+        lows(t.a, t.b, t.c),
     )
 }
 
-// .. and to the far cap's.
-fn far_cap(drill: Drill, a: Corner, b: Corner, c: Corner, high: Wide) -> bool
-    requires { (DrillSized drill × (CornerSized a × (CornerSized b × CornerSized c))) × Sized (2 ^ 126) (value high) }
-    ensures { (l : Line) (ρ : ℕ) → Drills drill l ρ → value high ≡ high_of l (from_axis_of a) (from_axis_of b) (from_axis_of c)
-        → result ≡ far_of l ρ (from_axis_of a) (from_axis_of b) (from_axis_of c) }
+// .. and to the far cap's. Not one function with `near_cap`: the law is another, of the steps reversed, and one function would ask which.
+fn far_cap(t: Candidate, high: Wide) -> bool
+    requires { CandidateSized t × Sized (2 ^ 126) (value high) }
+    ensures { (l : Line) (ρ : ℕ) → Drills t.drill l ρ → value high ≡ high_of l (from_axis_of t.a) (from_axis_of t.b) (from_axis_of t.c)
+        → result ≡ far_of l ρ (from_axis_of t.a) (from_axis_of t.b) (from_axis_of t.c) }
 {
-    let frame = frame_of(a, b, c);
+    let frame = frame_of(t.a, t.b, t.c);
     let back = inside::reversed(frame.steps);
     inside::cap_in(
-        drill.area,
-        drill.length,
+        t.drill.area,
+        t.drill.length,
         frame.whole,
         high,
         back,
-        highs(a, b, c),
+        highs(t.a, t.b, t.c),
     )
 }
 
 // Whether the plane's point nearest to the axis' segment lies in the triangle and the drill, where the weights' sum is above 0.
-fn crossed_forward(drill: Drill, a: Corner, b: Corner, c: Corner, p: Pierce) -> bool
-    requires { (DrillSized drill × (CornerSized a × (CornerSized b × CornerSized c))) × PierceSized p }
-    ensures { (l : Line) (ρ : ℕ) → Drills drill l ρ → value p.low ≡ low_of l (from_axis_of a) (from_axis_of b) (from_axis_of c)
-        → value p.high ≡ high_of l (from_axis_of a) (from_axis_of b) (from_axis_of c)
-        → result ≡ nearest_in (near_of l ρ (from_axis_of a) (from_axis_of b) (from_axis_of c))
-        (far_of l ρ (from_axis_of a) (from_axis_of b) (from_axis_of c))
+fn crossed_forward(t: Candidate, p: Pierce) -> bool
+    requires { CandidateSized t × PierceSized p }
+    ensures { (l : Line) (ρ : ℕ) → Drills t.drill l ρ → value p.low ≡ low_of l (from_axis_of t.a) (from_axis_of t.b) (from_axis_of t.c)
+        → value p.high ≡ high_of l (from_axis_of t.a) (from_axis_of t.b) (from_axis_of t.c)
+        → result ≡ nearest_in (near_of l ρ (from_axis_of t.a) (from_axis_of t.b) (from_axis_of t.c))
+        (far_of l ρ (from_axis_of t.a) (from_axis_of t.b) (from_axis_of t.c))
         (value p.i) (value p.j) (value p.k) (value p.low) (value p.high) }
 {
     if number::is_negative(p.low) {
-        return near_cap(drill, a, b, c, p.low);
+        return near_cap(t, p.low);
     }
     if number::is_negative(p.high) {
-        return far_cap(drill, a, b, c, p.high);
+        return far_cap(t, p.high);
     }
     weights_in(p.i, p.j, p.k)
 }
 
-// .. and where it is below 0.
-fn crossed_backward(drill: Drill, a: Corner, b: Corner, c: Corner, p: Pierce) -> bool
-    requires { (DrillSized drill × (CornerSized a × (CornerSized b × CornerSized c))) × PierceSized p }
-    ensures { (l : Line) (ρ : ℕ) → Drills drill l ρ → value p.low ≡ low_of l (from_axis_of a) (from_axis_of b) (from_axis_of c)
-        → value p.high ≡ high_of l (from_axis_of a) (from_axis_of b) (from_axis_of c)
-        → result ≡ nearest_in (near_of l ρ (from_axis_of a) (from_axis_of b) (from_axis_of c))
-        (far_of l ρ (from_axis_of a) (from_axis_of b) (from_axis_of c))
+// .. and where it is below 0: each sign is told the other way, and only the weights are negated, where they are needed.
+fn crossed_backward(t: Candidate, p: Pierce) -> bool
+    requires { CandidateSized t × PierceSized p }
+    ensures { (l : Line) (ρ : ℕ) → Drills t.drill l ρ → value p.low ≡ low_of l (from_axis_of t.a) (from_axis_of t.b) (from_axis_of t.c)
+        → value p.high ≡ high_of l (from_axis_of t.a) (from_axis_of t.b) (from_axis_of t.c)
+        → result ≡ nearest_in (near_of l ρ (from_axis_of t.a) (from_axis_of t.b) (from_axis_of t.c))
+        (far_of l ρ (from_axis_of t.a) (from_axis_of t.b) (from_axis_of t.c))
         (neg_ℤ (value p.i)) (neg_ℤ (value p.j)) (neg_ℤ (value p.k)) (neg_ℤ (value p.low)) (neg_ℤ (value p.high)) }
 {
     if number::is_positive(p.low) {
-        return near_cap(drill, a, b, c, p.low);
+        return near_cap(t, p.low);
     }
     if number::is_positive(p.high) {
-        return far_cap(drill, a, b, c, p.high);
+        return far_cap(t, p.high);
     }
     let i = number::negate(p.i);
     let j = number::negate(p.j);
@@ -202,56 +199,50 @@ fn crossed_backward(drill: Drill, a: Corner, b: Corner, c: Corner, p: Pierce) ->
 }
 
 // Whether the plane's point nearest to the axis' segment lies in the triangle and the drill.
-fn plane_in(drill: Drill, a: Corner, b: Corner, c: Corner) -> bool
-    requires { DrillSized drill × (CornerSized a × (CornerSized b × CornerSized c)) }
-    ensures { (l : Line) (ρ : ℕ) → Drills drill l ρ → result ≡ plane_of l ρ (from_axis_of a) (from_axis_of b) (from_axis_of c) }
+fn plane_in(t: Candidate) -> bool
+    requires { CandidateSized t }
+    ensures { (l : Line) (ρ : ℕ) → Drills t.drill l ρ → result ≡ plane_of l ρ (from_axis_of t.a) (from_axis_of t.b) (from_axis_of t.c) }
 {
-    let p = crossing(a.at, b.at, c.at, drill.direction, drill.start, drill.end);
+    let p = crossing(
+        t.a.at,
+        t.b.at,
+        t.c.at,
+        t.drill.direction,
+        t.drill.start,
+        t.drill.end,
+    );
     if number::is_positive(p.whole) {
-        return crossed_forward(drill, a, b, c, p);
+        return crossed_forward(t, p);
     }
     if number::is_negative(p.whole) {
-        return crossed_backward(drill, a, b, c, p);
+        return crossed_backward(t, p);
     }
-    near_cap(drill, a, b, c, p.low)
+    near_cap(t, p.low)
 }
 
 // Whether a corner or a side is in the drill.
-fn outline_in(drill: Drill, a: Corner, b: Corner, c: Corner) -> bool
-    requires { DrillSized drill × (CornerSized a × (CornerSized b × CornerSized c)) }
-    ensures { (l : Line) (ρ : ℕ) → Drills drill l ρ → result ≡ outline_of l ρ (from_axis_of a) (from_axis_of b) (from_axis_of c) }
+fn outline_in(t: Candidate) -> bool
+    requires { CandidateSized t }
+    ensures { (l : Line) (ρ : ℕ) → Drills t.drill l ρ → result ≡ outline_of l ρ (from_axis_of t.a) (from_axis_of t.b) (from_axis_of t.c) }
 {
-    let reach = drill.reach;
-    let d = drill.direction;
-    let area = drill.area;
-    let side = drill.side;
-    if sides::corner_in(reach, a) {
-        return true;
-    }
-    if sides::corner_in(reach, b) {
-        return true;
-    }
-    if sides::corner_in(reach, c) {
-        return true;
-    }
-    if sides::side_in(area, d, reach, side, a, b) {
-        return true;
-    }
-    if sides::side_in(area, d, reach, side, b, c) {
-        return true;
-    }
-    sides::side_in(area, d, reach, side, c, a)
+    let reach = t.drill.reach;
+    let d = t.drill.direction;
+    let area = t.drill.area;
+    let side = t.drill.side;
+    sides::corner_in(reach, t.a)
+        || sides::corner_in(reach, t.b)
+        || sides::corner_in(reach, t.c)
+        || sides::side_in(area, d, reach, side, t.a, t.b)
+        || sides::side_in(area, d, reach, side, t.b, t.c)
+        || sides::side_in(area, d, reach, side, t.c, t.a)
 }
 
 // Whether the drill touches the triangle, by its corners from the axis.
-fn touched_by(drill: Drill, a: Corner, b: Corner, c: Corner) -> bool
-    requires { DrillSized drill × (CornerSized a × (CornerSized b × CornerSized c)) }
-    ensures { (l : Line) (ρ : ℕ) → Drills drill l ρ → result ≡ touched_by l ρ (from_axis_of a) (from_axis_of b) (from_axis_of c) }
+fn touched_by(t: Candidate) -> bool
+    requires { CandidateSized t }
+    ensures { (l : Line) (ρ : ℕ) → Drills t.drill l ρ → result ≡ touched_by l ρ (from_axis_of t.a) (from_axis_of t.b) (from_axis_of t.c) }
 {
-    if outline_in(drill, a, b, c) {
-        return true;
-    }
-    plane_in(drill, a, b, c)
+    outline_in(t) || plane_in(t)
 }
 
 // Whether the drill touches the triangle, by what it means: a triangle past a cap or to one side of the axis is clear at once.
@@ -262,8 +253,11 @@ pub fn touches(drill: Drill, a: Point, b: Point, c: Point) -> bool
     let first = corner::corner_at(drill, a);
     let second = corner::corner_at(drill, b);
     let third = corner::corner_at(drill, c);
-    if reject::beyond(drill.side, first, second, third) {
-        return false;
-    }
-    touched_by(drill, first, second, third)
+    !reject::beyond(drill.side, first, second, third)
+        && touched_by(Candidate {
+            drill,
+            a: first,
+            b: second,
+            c: third,
+        })
 }

@@ -1,4 +1,5 @@
 -- The line lies in the triangle's plane: the answer is the first point there. Assumes nothing.
+use Rattle.std.specs.Prelude.{Option, Some, None}
 use mathlib.Core.Path.{◌≡◌, refl, sym, ap, ◌∙◌}
 use mathlib.Core.Logic.{◌⊎◌, inl, inr}
 use mathlib.Core.Bool.{Bool, true, false, not, ◌&&◌, cond, true≢false}
@@ -10,8 +11,6 @@ use lib.Signed.{lt_z, le_z}
 use borrow.Author.Tests.{lt-ltb}
 use Rattle.exact_depth.specs.declared.projection.Projected.{Projected}
 use Rattle.exact_depth.specs.declared.projection.Fraction.{Fraction}
-use Rattle.exact_depth.specs.declared.projection.Depth.{Depth}
-use Rattle.exact_depth.specs.declared.projection.Depth.TheVariants.{At, Miss}
 use Rattle.exact_depth.specs.declared.plane.PlanePoint.{PlanePoint}
 use Rattle.wide_integers.specs.Determinant.{determinant}
 use Rattle.exact_depth.specs.FirstPoint.{seen_determinant, kept, inside, entry, side_of}
@@ -129,7 +128,7 @@ module _ (near far : ℤ) (a b c : Projected) (A B C : PlanePoint) (apart : HasA
   kept_tells q₁ q₂ q₃ = go (lt_z f.t (near *ℤ f.w)) (lt_z (far *ℤ f.w) f.t) refl refl
     where
       go : (l m : Bool) → lt_z f.t (near *ℤ f.w) ≡ l → lt_z (far *ℤ f.w) f.t ≡ m
-          → First near far a b c (cond l Miss (cond m Miss (At f)))
+          → First near far a b c (cond l None (cond m None (Some f)))
       go true m l m' =
           let r = rep_lt (own f.t) (rep_mul (own near) (own_pos U)) (ap (λ (z : ℤ). lt_z f.t (near *ℤ z)) (sym w_is) ∙ l) in
           let s = rep_le (rep_mul (own near) (own_pos U)) (own f.t) (Planes.entry_from_near A B C S turned near) in
@@ -151,7 +150,7 @@ module _ (near far : ℤ) (a b c : Projected) (A B C : PlanePoint) (apart : HasA
   abbrev H₃ : ℤ
   H₃ = determinant (Planes.L₃ A B C S turned) (Planes.F₃ A B C S turned) f.t f.w
 
-  along_f : First near far a b c (cond (tested (lt_z H₁ (pos 0)) (lt_z H₂ (pos 0)) (le_z (pos 0) H₃)) (kept f near far) Miss)
+  along_f : First near far a b c (cond (tested (lt_z H₁ (pos 0)) (lt_z H₂ (pos 0)) (le_z (pos 0) H₃)) (kept f near far) None)
   along_f = go (lt_z H₁ (pos 0)) (lt_z H₂ (pos 0)) (le_z (pos 0) H₃) refl refl refl
     where
       back₁ : p₁ → lt_z H₁ (pos 0) ≡ false
@@ -173,7 +172,7 @@ module _ (near far : ℤ) (a b c : Projected) (A B C : PlanePoint) (apart : HasA
       to₃ q = ap (λ (z : ℤ). lt_z z (pos 0)) (sym (height_is (Planes.L₃ A B C S turned) (Planes.F₃ A B C S turned))) ∙ q
 
       go : (p q r : Bool) → lt_z H₁ (pos 0) ≡ p → lt_z H₂ (pos 0) ≡ q → le_z (pos 0) H₃ ≡ r
-          → First near far a b c (cond (tested p q r) (kept f near far) Miss)
+          → First near far a b c (cond (tested p q r) (kept f near far) None)
       go true q r p' q' r' = missed near far a b c (λ h D t o. clash p' (back₁ (on_passes₁ D t o)))
       go false true r p' q' r' = missed near far a b c (λ h D t o. clash q' (back₂ (on_passes₂ D t o)))
       go false false false p' q' r' = missed near far a b c (λ h D t o. clash (negative H₃ (back₃ (on_passes₃ D t o))) r')
@@ -204,7 +203,7 @@ module _ (near far : ℤ) (a b c : Projected) (A B C : PlanePoint)
     (drop : (D : ℕ) (t : ℤ) → Meets a b c D t → Planes.PlanePointMeets A B C D t)
     (lift : (area A B C ≡ pos 0 → ⊥) → (D : ℕ) (t : ℤ) → Planes.PlanePointMeets A B C D t → Meets a b c D t)
     (apart : (area A B C ≡ pos 0 → ⊥) → HasArea a b c)
-    (other : Depth) (otherwise : area A B C ≡ pos 0 → First near far a b c other) where
+    (other : Option Fraction) (otherwise : area A B C ≡ pos 0 → First near far a b c other) where
   not_zero : (x : ℤ) (n : ℕ) → x ≡ pos n → 0 < n → x ≡ pos 0 → ⊥
   not_zero x n e p z = let d : n ≡ 0 = ap pp (sym e ∙ z) in omega (arith, p, d)
 
@@ -322,7 +321,7 @@ module _ (near far : ℤ) (a b c : Projected) (α : seen_determinant b c ≡ pos
       about : (p q r s : ℤ) → determinant q p s r ≡ neg_ℤ (determinant p q r s)
       about p q r s = simp ring
 
-  across_tells : (other : Depth)
+  across_tells : (other : Option Fraction)
       → (area (across_point a) (across_point b) (across_point c) ≡ pos 0 → First near far a b c other)
       → First near far a b c (in_plane (across_point a) (across_point b) (across_point c) near far other)
   across_tells other =
@@ -341,7 +340,7 @@ module _ (near far : ℤ) (a b c : Projected) (α : seen_determinant b c ≡ pos
       (λ some w s u. some s) other
 
   upright_tells : area (across_point a) (across_point b) (across_point c) ≡ pos 0
-      → First near far a b c (in_plane (up_point a) (up_point b) (up_point c) near far Miss)
+      → First near far a b c (in_plane (up_point a) (up_point b) (up_point c) near far None)
   upright_tells flat =
       plane_tells near far a b c (up_point a) (up_point b) (up_point c)
       (λ D t m. record { i = m.i; j = m.j; k = m.k; total = m.total; u = m.up; depth = m.depth })
@@ -358,8 +357,8 @@ module _ (near far : ℤ) (a b c : Projected) (α : seen_determinant b c ≡ pos
         up = m.u;
         depth = m.depth;
       })
-      (λ some w s u. some u) Miss (λ z. missed near far a b c (λ apart D t o. apart sum_zero flat z))
+      (λ some w s u. some u) None (λ z. missed near far a b c (λ apart D t o. apart sum_zero flat z))
 
   pub coplanar_tells : First near far a b c (coplanar a b c near far)
   unfolding coplanar
-  coplanar_tells = across_tells (in_plane (up_point a) (up_point b) (up_point c) near far Miss) upright_tells
+  coplanar_tells = across_tells (in_plane (up_point a) (up_point b) (up_point c) near far None) upright_tells

@@ -1,4 +1,5 @@
 -- The line crosses the plane: the three weights tell whether it does so in the triangle, and how deep. Assumes nothing.
+use Rattle.std.specs.Prelude.{Some, None}
 use mathlib.Core.Path.{◌≡◌, refl, sym, ap, ◌∙◌}
 use mathlib.Core.Bool.{Bool, true, false, cond, true≢false}
 use Prim.Native.Nat.{ℕ, ◌+◌, ◌*◌, ◌<◌}
@@ -6,7 +7,6 @@ use lib.IntN.{ℤ, pos, ◌+ℤ◌, ◌*ℤ◌}
 use lib.Signed.{lt_z, le_z}
 use Rattle.exact_depth.specs.declared.projection.Projected.{Projected}
 use Rattle.exact_depth.specs.declared.projection.Fraction.{Fraction}
-use Rattle.exact_depth.specs.declared.projection.Depth.TheVariants.{At, Miss}
 use Rattle.exact_depth.specs.FirstPoint.{kept, crossing}
 use Rattle.exact_depth.specs.Meeting.{mix, Meets, HasArea, Reached, First}
 use Rattle.wide_integers.proofs.Integers.{pp}
@@ -86,7 +86,7 @@ module _ (near far : ℤ) (a b c : Projected) (α β γ : ℤ)
       go (lt_z T (near *ℤ (α +ℤ β +ℤ γ))) (lt_z (far *ℤ (α +ℤ β +ℤ γ)) T) refl refl
     where
       go : (l m : Bool) → lt_z T (near *ℤ (α +ℤ β +ℤ γ)) ≡ l → lt_z (far *ℤ (α +ℤ β +ℤ γ)) T ≡ m
-          → First near far a b c (cond l Miss (cond m Miss (At at)))
+          → First near far a b c (cond l None (cond m None (Some at)))
       go true m l m' = missed near far a b c (λ h D t o.
           clash l (ap (λ (z : ℤ). lt_z T (near *ℤ z)) sum
           ∙ least_same D W T t o.positive (same_depth D t o.meets) near o.least))
@@ -100,7 +100,7 @@ module _ (near far : ℤ) (a b c : Projected) (α β γ : ℤ)
   crossing_tells = go (lt_z α (pos 0)) (lt_z β (pos 0)) (lt_z γ (pos 0)) refl refl refl
     where
       go : (A B C : Bool) → lt_z α (pos 0) ≡ A → lt_z β (pos 0) ≡ B → lt_z γ (pos 0) ≡ C
-          → First near far a b c (cond A Miss (cond B Miss (cond C Miss (kept at near far))))
+          → First near far a b c (cond A None (cond B None (cond C None (kept at near far))))
       go true B C p q r = missed near far a b c (λ h D t o. clash p (first_weight D t o.meets o.positive))
       go false true C p q r = missed near far a b c (λ h D t o. clash q (second_weight D t o.meets o.positive))
       go false false true p q r = missed near far a b c (λ h D t o. clash r (third_weight D t o.meets o.positive))

@@ -1,5 +1,6 @@
 -- The first point is what it says: none exactly if no point of the segment lies in the closed triangle, and else the least depth. Assumes
 -- nothing.
+use Rattle.std.specs.Prelude.{None}
 use mathlib.Core.Path.{◌≡◌, refl, sym, ap, ◌∙◌}
 use mathlib.Core.Bool.{Bool, true, false, not, ◌&&◌, cond, true≢false, false≢true}
 use Prim.Native.Nat.{ℕ, suc, ◌*◌, ◌<◌}
@@ -9,7 +10,6 @@ use lib.IntN.{ℤ, pos, negsuc, neg_ℤ, ◌+ℤ◌, ◌*ℤ◌}
 use lib.Signed.{lt_z, le_z}
 use borrow.Author.Tests.{lt-ltb}
 use Rattle.exact_depth.specs.declared.projection.Projected.{Projected}
-use Rattle.exact_depth.specs.declared.projection.Depth.TheVariants.{Miss}
 use Rattle.wide_integers.specs.Determinant.{is_zero}
 use Rattle.exact_depth.specs.FirstPoint.{seen_determinant, crossing, coplanar, by_weights, first_point}
 use Rattle.exact_depth.specs.Meeting.{On, First}
@@ -109,10 +109,10 @@ module _ (near far : ℤ) (a b c : Projected) where
         let q⁻ = ap np q in
         equal (own γ) (own_pos 0) (omega (arith, e, p⁺, p⁻, q⁺, q⁻))
 
-    level : First near far a b c (cond (is_zero α && is_zero β) (coplanar a b c near far) Miss)
+    level : First near far a b c (cond (is_zero α && is_zero β) (coplanar a b c near far) None)
     level = go (is_zero α) (is_zero β) refl refl
       where
-        go : (p q : Bool) → is_zero α ≡ p → is_zero β ≡ q → First near far a b c (cond (p && q) (coplanar a b c near far) Miss)
+        go : (p q : Bool) → is_zero α ≡ p → is_zero β ≡ q → First near far a b c (cond (p && q) (coplanar a b c near far) None)
         go false q p' q' = missed near far a b c (λ h D t o. true≢false (sym (is_zero_lem α (first_none D t o)) ∙ p'))
         go true false p' q' = missed near far a b c (λ h D t o. true≢false (sym (is_zero_lem β (second_none D t o)) ∙ q'))
         go true true p' q' =
@@ -134,7 +134,7 @@ module _ (near far : ℤ) (a b c : Projected) where
           → First near far a b c
           (cond p (crossing α β γ a.depth b.depth c.depth near far)
           (cond q (crossing (neg_ℤ α) (neg_ℤ β) (neg_ℤ γ) a.depth b.depth c.depth near far)
-          (cond (is_zero α && is_zero β) (coplanar a b c near far) Miss)))
+          (cond (is_zero α && is_zero β) (coplanar a b c near far) None)))
       go true q p' q' = left p'
       go false true p' q' = right q'
       go false false p' q' = level (zero_of (α +ℤ β +ℤ γ) p' q')

@@ -1,4 +1,5 @@
 -- What an answer says of the points of the line: a miss has none, a depth is the least. Assumes nothing.
+use Rattle.std.specs.Prelude.{Option, Some, None}
 use mathlib.Core.Path.{◌≡◌, refl, ap, subst}
 use mathlib.Core.Bool.{Bool, true, false, true≢false, false≢true}
 use Prim.Native.Nat.{ℕ, ◌+◌, ◌*◌, ◌≤◌, ◌<◌}
@@ -8,31 +9,29 @@ use lib.IntN.{ℤ, pos, negsuc, ◌*ℤ◌}
 use lib.Signed.{lt_z, le_z}
 use Rattle.exact_depth.specs.declared.projection.Projected.{Projected}
 use Rattle.exact_depth.specs.declared.projection.Fraction.{Fraction}
-use Rattle.exact_depth.specs.declared.projection.Depth.{Depth}
-use Rattle.exact_depth.specs.declared.projection.Depth.TheVariants.{At, Miss}
 use Rattle.exact_depth.specs.Meeting.{On, HasArea, Reached, First}
 use Rattle.wide_integers.proofs.Integers.{pp, np}
 use Rattle.wide_integers.proofs.Polynomials.{own, rep_mul, own_pos}
 use Rattle.wide_integers.proofs.Order.{rep_le, le_rep, rep_lt, rep_nlt, nlt_rep, rep_same}
 
 -- ---- the two answers
-abbrev pub is_at : Depth → Bool
-is_at (At f) = true
-is_at Miss = false
+abbrev pub is_at : Option Fraction → Bool
+is_at (Some f) = true
+is_at None = false
 
-abbrev pub depth_of : Depth → Fraction
-depth_of (At f) = f
-depth_of Miss = record { t = pos 0; w = pos 0 }
+abbrev pub depth_of : Option Fraction → Fraction
+depth_of (Some f) = f
+depth_of None = record { t = pos 0; w = pos 0 }
 
 module _ (near far : ℤ) (a b c : Projected) where
-  pub missed : (HasArea a b c → (D : ℕ) (t : ℤ) → On near far a b c D t → ⊥) → First near far a b c Miss
+  pub missed : (HasArea a b c → (D : ℕ) (t : ℤ) → On near far a b c D t → ⊥) → First near far a b c None
   missed h = record {
     none = λ e. h;
     area = λ f e. absurd (false≢true (ap is_at e));
     reached = λ f e. absurd (false≢true (ap is_at e));
   }
 
-  pub met : (f : Fraction) → HasArea a b c → Reached near far a b c f → First near far a b c (At f)
+  pub met : (f : Fraction) → HasArea a b c → Reached near far a b c f → First near far a b c (Some f)
   met f apart r = record {
     none = λ e. absurd (true≢false (ap is_at e));
     area = λ g e. apart;

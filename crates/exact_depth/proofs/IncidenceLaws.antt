@@ -1,4 +1,5 @@
 -- The signs of a triangle's weights decide where the line passes it. Assumes nothing.
+use Rattle.std.specs.Prelude.{None}
 use mathlib.Core.Path.{◌≡◌, refl, sym, ap, ◌∙◌}
 use mathlib.Core.Logic.{◌⊎◌, inl, inr}
 use mathlib.Core.Bool.{Bool, true, false, ◌||◌, true≢false, false≢true}
@@ -12,8 +13,6 @@ use Rattle.wide_integers.proofs.Polynomials.{own, own_pos, rep_add, rep_neg, rep
 use Rattle.wide_integers.proofs.Order.{rep_lt, lt_rep, rep_nlt, nlt_rep, rep_same}
 use Rattle.exact_depth.specs.declared.projection.Projected.{Projected}
 use Rattle.exact_depth.specs.declared.projection.Fraction.{Fraction}
-use Rattle.exact_depth.specs.declared.projection.Depth.{Depth}
-use Rattle.exact_depth.specs.declared.projection.Depth.TheVariants.{Miss}
 use Rattle.exact_depth.specs.FirstPoint.{seen_determinant, kept, crossing, by_weights, first_point}
 use Rattle.exact_depth.specs.Meeting.{Meets, On, HasArea}
 use Rattle.exact_depth.specs.Orientation.{SignOf}
@@ -104,7 +103,7 @@ module _ (a b c : Projected) where
     no_point h (inr (inl g)) = any_positive_lem β second_share g h
     no_point h (inr (inr g)) = any_positive_lem γ third_share g h
 
-  pub outside : Above α ⊎ (Above β ⊎ Above γ) → Beneath α ⊎ (Beneath β ⊎ Beneath γ) → (near far : ℤ) → Miss ≡ first_point a b c near far
+  pub outside : Above α ⊎ (Above β ⊎ Above γ) → Beneath α ⊎ (Beneath β ⊎ Beneath γ) → (near far : ℤ) → None ≡ first_point a b c near far
   outside h g near far = unmet near far a b c (λ D t o. no_point near far D t o h g)
 
   -- ---- inside: none is below 0, and one is above
@@ -239,11 +238,3 @@ module _ (a b c : Projected) where
     incident_by Coplanar h = tt
 
 -- ---- the tests of three numbers, one after the other
-pub first_some : (p q r : Bool) → p ≡ true → true ≡ (p || (q || r))
-first_some p q r h = sym (ap (λ (b : Bool). b || (q || r)) h)
-
-pub second_some : (p q r : Bool) → p ≡ false → q ≡ true → true ≡ (p || (q || r))
-second_some p q r h g = sym ((λ i. h i || (g i || r)))
-
-pub third_some : (p q r : Bool) {s : Bool} → p ≡ false → q ≡ false → s ≡ r → s ≡ (p || (q || r))
-third_some p q r h g e = e ∙ sym ((λ i. h i || (g i || r)))

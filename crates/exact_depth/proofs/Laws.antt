@@ -1,38 +1,36 @@
 -- The code's steps give exact_depth's numbers, and keep to their sizes. Assumes nothing.
+use Rattle.std.specs.Prelude.{Option, None}
+use Rattle.exact_depth.specs.declared.wide_depth.WideDepth.{WideDepth}
 use mathlib.Core.Path.{◌≡◌, sym, ap, ◌∙◌, subst}
 use mathlib.Core.Bool.{Bool, true, false, cond}
 use lib.Dec.{lit≤, lit<}
-use lib.IntN.{ℤ, pos, neg_ℤ, ◌+ℤ◌, ◌-ℤ◌, ◌*ℤ◌, +ℤ_idl}
+use lib.IntN.{ℤ, pos, neg_ℤ, ◌-ℤ◌, ◌*ℤ◌, +ℤ_idl}
 use lib.Signed.{lt_z}
 use mir.Syntax.{w64}
 use mir.Val.{SFits}
 use Rattle.exact_depth.specs.declared.projection.Projected.{Projected}
 use Rattle.exact_depth.specs.declared.projection.Fraction.{Fraction}
-use Rattle.exact_depth.specs.declared.projection.Depth.{Depth}
-use Rattle.exact_depth.specs.declared.projection.Depth.TheVariants.{Miss as Missed}
 use Rattle.wide_integers.specs.Sizes.{Sized61}
 use Rattle.exact_depth.specs.declared.plane.Side.{Side}
 use Rattle.wide_integers.specs.Determinant.{determinant}
 use Rattle.exact_depth.specs.FirstPoint.{seen_determinant, height_of, side_of, entering}
-use Rattle.wide_integers.proofs.Reading.{bits, Fit, fits, plain, widen, held_fit, product_size, sum_size, difference_size, negated_size}
+use Rattle.wide_integers.proofs.Reading.{bits, Fit, fits, plain, widen, held_fit, product_size, difference_size, negated_size}
 use Rattle.wide_integers.proofs.Reading.{bits_back}
 use Rattle.wide_integers.proofs.Polynomials.{times_comm}
 use Rattle.wide_integers.specs.declared.number.Wide.{Wide}
 use Rattle.wide_integers.specs.Value.{value, Middling, Weight, FitsWide as Three}
 use Rattle.wide_integers.proofs.OperationLaws.{held, middling, word_size}
-use Rattle.exact_depth.specs.declared.wide_depth.Found.{Found}
-use Rattle.exact_depth.specs.declared.wide_depth.Found.TheVariants.{Miss}
-use Rattle.exact_depth.specs.declared.coplanar_point.Corner.{Corner}
+use Rattle.exact_depth.specs.declared.plane.PlanePoint.{PlanePoint}
 use Rattle.exact_depth.specs.declared.coplanar_point.Edge.{Edge}
 use Rattle.exact_depth.specs.declared.coplanar_point.PlaneDepth.{PlaneDepth}
-use Rattle.exact_depth.specs.Answer.{Finds, point_of, side_as, plane_depth_of}
+use Rattle.exact_depth.specs.Answer.{Finds, side_as, plane_depth_of}
 use Rattle.exact_depth.specs.Sizes.{Close, Flat, Bounded, Shallow}
 
 -- ---- answers
-pub finds_as : {r : Found} {d e : Depth} → Finds r d → d ≡ e → Finds r e
+pub finds_as : {r : Option WideDepth} {d e : Option Fraction} → Finds r d → d ≡ e → Finds r e
 finds_as f p = record { is = f.is ∙ p; narrow = f.narrow }
 
-pub missed : {d : Depth} → Missed ≡ d → Finds Miss d
+pub missed : {d : Option Fraction} → None ≡ d → Finds None d
 missed p = record { is = p; narrow = tt }
 
 -- ---- what the machine reads back
@@ -63,15 +61,6 @@ module _ (l f t w : ℤ) (hf : Fit f) (hw : Fit w) where
 
   pub height_held : Weight l → Weight t → Three (determinant l f t w)
   height_held hl ht = held (difference_size (product_size hl hw) (product_size hf ht)) (lit< tt)
-
-pub weight_middling : {z : ℤ} → Weight z → Middling z
-weight_middling h = middling h (lit< tt)
-
-pub weight_negated : {z : ℤ} → Weight z → Three (neg_ℤ z)
-weight_negated h = held (negated_size h) (lit< tt)
-
-pub weights_middling : {a b c : ℤ} → Weight a → Weight b → Weight c → Middling (a +ℤ b +ℤ c)
-weights_middling ha hb hc = middling (sum_size (sum_size ha hb) hc) (lit< tt)
 
 pub fit_middling : {z : ℤ} → Fit z → Middling z
 fit_middling h = middling h (lit< tt)
@@ -104,8 +93,8 @@ record Kept (f : Fraction) : Type 0 where
   t : Weight f.t
   w : Fit f.w
 
-pub side_bounded : {p q : Corner} {r : Edge} → SFits w64 p.depth → SFits w64 q.depth → Flat p → Flat q
-    → side_as r ≡ side_of (point_of p) (point_of q) → Bounded r
+pub side_bounded : {p q : PlanePoint} {r : Edge} → SFits w64 p.depth → SFits w64 q.depth → Flat p → Flat q
+    → side_as r ≡ side_of p q → Bounded r
 unfolding side_of
 side_bounded {p} {q} {r} d f h g e =
     let k : Steady (side_as r) =

@@ -1,12 +1,12 @@
 -- A triangle that lies on one side of the line, across or up, has no point of it. Assumes nothing.
+use Rattle.std.specs.Prelude.{Option, Some, None}
+use Rattle.exact_depth.specs.declared.projection.Fraction.{Fraction}
 use mathlib.Core.Path.{◌≡◌, refl}
 use Prim.Native.Nat.{ℕ, ◌+◌, ◌*◌, ◌≤◌, ◌<◌}
 use native.Mathlib.Nat.{mul-le-mul_right}
 use native.Mathlib.Omega.{arith}
 use lib.IntN.{ℤ, pos}
 use Rattle.exact_depth.specs.declared.projection.Projected.{Projected}
-use Rattle.exact_depth.specs.declared.projection.Depth.{Depth}
-use Rattle.exact_depth.specs.declared.projection.Depth.TheVariants.{At, Miss}
 use Rattle.exact_depth.specs.FirstPoint.{first_point}
 use Rattle.exact_depth.specs.Meeting.{mix, On}
 use Rattle.wide_integers.proofs.Integers.{pp, np}
@@ -44,19 +44,19 @@ no_mean i j k x y z some (below h g f) e =
 
 -- ---- so no point of the line lies in the triangle
 module _ (near far : ℤ) (a b c : Projected) where
-  pub unmet : ((D : ℕ) (t : ℤ) → On near far a b c D t → ⊥) → Miss ≡ first_point a b c near far
+  pub unmet : ((D : ℕ) (t : ℤ) → On near far a b c D t → ⊥) → None ≡ first_point a b c near far
   unmet h = go (first_point a b c near far) refl
     where
-      go : (d : Depth) → first_point a b c near far ≡ d → Miss ≡ d
-      go Miss e = refl
-      go (At f) e = let m = (first_point_tells near far a b c).reached f e in absurd (h m.D m.t m.on)
+      go : (d : Option Fraction) → first_point a b c near far ≡ d → None ≡ d
+      go None e = refl
+      go (Some f) e = let m = (first_point_tells near far a b c).reached f e in absurd (h m.D m.t m.on)
 
-  pub across_missed : OneSide a.across b.across c.across → Miss ≡ first_point a b c near far
+  pub across_missed : OneSide a.across b.across c.across → None ≡ first_point a b c near far
   across_missed h = unmet (λ D t o.
       let m = o.meets in
       no_mean m.i m.j m.k a.across b.across c.across (omega (arith, o.positive, m.total)) h m.across)
 
-  pub up_missed : OneSide a.up b.up c.up → Miss ≡ first_point a b c near far
+  pub up_missed : OneSide a.up b.up c.up → None ≡ first_point a b c near far
   up_missed h = unmet (λ D t o.
       let m = o.meets in
       no_mean m.i m.j m.k a.up b.up c.up (omega (arith, o.positive, m.total)) h m.up)

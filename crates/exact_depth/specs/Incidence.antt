@@ -1,9 +1,9 @@
 -- Inner contracts only: where a line passes a triangle. Definitions only. Assumes nothing.
+use Rattle.std.specs.Prelude.{None}
 use Rattle.std.specs.Prelude.{ℕ, ◌<◌, ◌≡◌, ◌⊎◌, Bool, true, false, ◌||◌, ℤ, pos}
 use Rattle.std.specs.Int.Signed.{lt_z}
 use Rattle.exact_depth.specs.declared.projection.Projected.{Projected}
 use Rattle.exact_depth.specs.declared.projection.Fraction.{Fraction}
-use Rattle.exact_depth.specs.declared.projection.Depth.TheVariants.{Miss}
 use Rattle.exact_depth.specs.declared.incidence.Incidence.{Incidence}
 use Rattle.exact_depth.specs.declared.incidence.Incidence.TheVariants.{Outside, Crossing, Coplanar}
 use Rattle.exact_depth.specs.FirstPoint.{kept, first_point}
@@ -33,6 +33,6 @@ BySigns x y z Crossing =
 BySigns x y z Coplanar = Unit {0}
 
 abbrev pub Incident : Projected → Projected → Projected → Incidence → Type 0
-Incident a b c Outside = (near far : ℤ) → Miss ≡ first_point a b c near far
+Incident a b c Outside = (near far : ℤ) → None ≡ first_point a b c near far
 Incident a b c Crossing = Crosses a b c
 Incident a b c Coplanar = Unit {0}

@@ -1,10 +1,9 @@
 -- What the first point is: the points of the line that lie in the closed triangle, as fractions. Definitions only. Assumes nothing.
+use Rattle.std.specs.Prelude.{Option, Some, None}
 use Rattle.std.specs.Prelude.{ℕ, ◌+◌, ◌<◌, ◌≡◌, true, ℤ, pos, ◌+ℤ◌, ◌*ℤ◌}
 use Rattle.std.specs.Int.Signed.{le_z}
 use Rattle.exact_depth.specs.declared.projection.Projected.{Projected}
 use Rattle.exact_depth.specs.declared.projection.Fraction.{Fraction}
-use Rattle.exact_depth.specs.declared.projection.Depth.{Depth}
-use Rattle.exact_depth.specs.declared.projection.Depth.TheVariants.{At, Miss}
 use Rattle.exact_depth.specs.FirstPoint.{seen_determinant, area, across_point, up_point}
 
 -- i x + j y + k z
@@ -46,7 +45,7 @@ pub record Reached (near far : ℤ) (a b c : Projected) (f : Fraction) : Type 0 
   pub same : t *ℤ pos W ≡ f.t *ℤ pos D
   pub least : (D' : ℕ) (t' : ℤ) → On near far a b c D' t' → le_z (f.t *ℤ pos D') (t' *ℤ pos W) ≡ true
 
-pub record First (near far : ℤ) (a b c : Projected) (answer : Depth) : Type 0 where
-  pub none : answer ≡ Miss → HasArea a b c → (D : ℕ) (t : ℤ) → On near far a b c D t → ⊥
-  pub area : (f : Fraction) → answer ≡ At f → HasArea a b c
-  pub reached : (f : Fraction) → answer ≡ At f → Reached near far a b c f
+pub record First (near far : ℤ) (a b c : Projected) (answer : Option Fraction) : Type 0 where
+  pub none : answer ≡ None → HasArea a b c → (D : ℕ) (t : ℤ) → On near far a b c D t → ⊥
+  pub area : (f : Fraction) → answer ≡ Some f → HasArea a b c
+  pub reached : (f : Fraction) → answer ≡ Some f → Reached near far a b c f

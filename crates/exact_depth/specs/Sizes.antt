@@ -2,7 +2,7 @@
 use Rattle.exact_depth.specs.declared.projection.Projected.{Projected}
 use Rattle.wide_integers.specs.Sizes.{Sized, Sized61}
 use Rattle.wide_integers.specs.Value.{value, Weight}
-use Rattle.exact_depth.specs.declared.coplanar_point.Corner.{Corner}
+use Rattle.exact_depth.specs.declared.plane.PlanePoint.{PlanePoint}
 use Rattle.exact_depth.specs.declared.coplanar_point.Edge.{Edge}
 use Rattle.exact_depth.specs.declared.coplanar_point.PlaneDepth.{PlaneDepth}
 
@@ -11,7 +11,7 @@ pub record Close (s : Projected) : Type 0 where
   pub across : Sized61 s.across
   pub up : Sized61 s.up
 
-pub record Flat (p : Corner) : Type 0 where
+pub record Flat (p : PlanePoint) : Type 0 where
   pub u : Sized61 p.u
 
 -- level up to 2^125, fall up to 2^62

@@ -2,21 +2,15 @@ ghost use Rattle.std.specs.Prelude.{◌≡◌};
 ghost use Rattle.exact_depth.specs.FirstPoint.{across_point, up_point, side_of, height_of, enter_at, entering, inside, area, along_plane};
 ghost use Rattle.exact_depth.specs.FirstPoint.{in_plane, coplanar};
 ghost use Rattle.wide_integers.specs.Value.{value};
-ghost use Rattle.exact_depth.specs.Answer.{point_of, side_as, plane_depth_of, answer_of, Finds, Narrow};
+ghost use Rattle.exact_depth.specs.Answer.{side_as, plane_depth_of, answer_of, Finds, Narrow};
 ghost use Rattle.exact_depth.specs.Sizes.{Close, Flat, Bounded, Shallow};
 
+use crate::plane::PlanePoint;
 use crate::projection::Projected;
 use crate::wide_depth;
-use crate::wide_depth::{Found, WideDepth};
+use crate::wide_depth::WideDepth;
 use wide_integers::number;
 use wide_integers::number::Wide;
-
-// A corner in a plane that the line lies in: the line is u = 0.
-#[derive(Clone, Copy)]
-pub struct Corner {
-    pub u: i64,
-    pub depth: i64,
-}
 
 // A side's own test of a depth t / w: level · w - fall · t is not below 0 on the triangle's side of it.
 #[derive(Clone, Copy)]
@@ -25,7 +19,7 @@ pub struct Edge {
     pub fall: i64,
 }
 
-// The depth t / w, with w above 0.
+// The depth t / w, with w above 0. The theorems speak of a `Fraction`, and of a `Side`, over whole numbers: this and `Edge` hold them.
 #[derive(Clone, Copy)]
 pub struct PlaneDepth {
     pub t: Wide,
@@ -33,9 +27,9 @@ pub struct PlaneDepth {
 }
 
 // The side of the line from one corner to another.
-fn side_of(p: Corner, q: Corner) -> Edge
+fn side_of(p: PlanePoint, q: PlanePoint) -> Edge
     requires { Flat p × Flat q }
-    ensures { side_as result ≡ side_of (point_of p) (point_of q) }
+    ensures { side_as result ≡ side_of p q }
 {
     Edge {
         level: number::determinant(p.u, p.depth, q.u, q.depth),
@@ -48,9 +42,10 @@ fn height(side: Edge, at: PlaneDepth) -> Wide
     requires { Bounded side × Shallow at }
     ensures { value result ≡ height_of (side_as side) (plane_depth_of at) }
 {
-    let level = side.level;
-    let t = at.t;
-    number::difference(number::times(level, at.w), number::times(t, side.fall))
+    number::difference(
+        number::times(side.level, at.w),
+        number::times(at.t, side.fall),
+    )
 }
 
 // The depth, or where it is outside a side, that at which the line comes over the side.
@@ -60,9 +55,8 @@ fn enter_at(at: PlaneDepth, side: Edge) -> PlaneDepth
 {
     let over = height(side, at);
     if number::is_negative(over) {
-        let level = side.level;
         return PlaneDepth {
-            t: number::negate(level),
+            t: number::negate(side.level),
             w: 0 - side.fall,
         };
     }
@@ -85,22 +79,15 @@ fn inside(first: Edge, second: Edge, third: Edge, at: PlaneDepth) -> bool
     requires { (Bounded first × (Bounded second × Bounded third)) × Shallow at }
     ensures { result ≡ inside (side_as first) (side_as second) (side_as third) (plane_depth_of at) }
 {
-    let one = height(first, at);
-    if number::is_negative(one) {
-        return false;
-    }
-    let two = height(second, at);
-    if number::is_negative(two) {
-        return false;
-    }
-    let three = height(third, at);
-    number::at_most(number::zero(), three)
+    !number::is_negative(height(first, at))
+        && !number::is_negative(height(second, at))
+        && !number::is_negative(height(third, at))
 }
 
 // A triangle whose corners run counterclockwise.
-fn along(a: Corner, b: Corner, c: Corner, near: i64, far: i64) -> Found
+fn along(a: PlanePoint, b: PlanePoint, c: PlanePoint, near: i64, far: i64) -> Option<WideDepth>
     requires { Flat a × (Flat b × Flat c) }
-    ensures { Finds result (along_plane (point_of a) (point_of b) (point_of c) near far) }
+    ensures { Finds result (along_plane a b c near far) }
 {
     let first = side_of(b, c);
     let second = side_of(c, a);
@@ -113,20 +100,19 @@ fn along(a: Corner, b: Corner, c: Corner, near: i64, far: i64) -> Found
     let twice = entering(once, second);
     let at = entering(twice, third);
     if !inside(first, second, third, at) {
-        return Found::Miss;
+        return None;
     }
-    let t = at.t;
     let deep = WideDepth {
-        t,
+        t: at.t,
         w: number::of_i64(at.w),
     };
     wide_depth::kept(deep, near, far)
 }
 
 // Twice the triangle's area, positive where the corners run counterclockwise.
-fn area_of(a: Corner, b: Corner, c: Corner) -> Wide
+fn area_of(a: PlanePoint, b: PlanePoint, c: PlanePoint) -> Wide
     requires { Flat a × (Flat b × Flat c) }
-    ensures { value result ≡ area (point_of a) (point_of b) (point_of c) }
+    ensures { value result ≡ area a b c }
 {
     let first = number::determinant(b.u, b.depth, c.u, c.depth);
     let second = number::determinant(c.u, c.depth, a.u, a.depth);
@@ -135,9 +121,16 @@ fn area_of(a: Corner, b: Corner, c: Corner) -> Wide
 }
 
 // A triangle whose corners run either way round; where they lie on one line the answer is another's.
-fn in_plane(a: Corner, b: Corner, c: Corner, near: i64, far: i64, other: Found) -> Found
+fn in_plane(
+    a: PlanePoint,
+    b: PlanePoint,
+    c: PlanePoint,
+    near: i64,
+    far: i64,
+    other: Option<WideDepth>,
+) -> Option<WideDepth>
     requires { (Flat a × (Flat b × Flat c)) × Narrow other }
-    ensures { Finds result (in_plane (point_of a) (point_of b) (point_of c) near far (answer_of other)) }
+    ensures { Finds result (in_plane a b c near far (answer_of other)) }
 {
     let signed = area_of(a, b, c);
     if number::is_positive(signed) {
@@ -149,37 +142,30 @@ fn in_plane(a: Corner, b: Corner, c: Corner, near: i64, far: i64, other: Found) 
     other
 }
 
-fn across_point(s: Projected) -> Corner
-    ensures { point_of result ≡ across_point s }
+fn across_point(s: Projected) -> PlanePoint
+    ensures { result ≡ across_point s }
 {
-    Corner {
+    PlanePoint {
         u: s.across,
         depth: s.depth,
     }
 }
 
-fn up_point(s: Projected) -> Corner
-    ensures { point_of result ≡ up_point s }
+fn up_point(s: Projected) -> PlanePoint
+    ensures { result ≡ up_point s }
 {
-    Corner {
+    PlanePoint {
         u: s.up,
         depth: s.depth,
     }
 }
 
 // The line lies in the triangle's plane. A plane that is no wider across is looked at from the side.
-pub fn coplanar(a: Projected, b: Projected, c: Projected, near: i64, far: i64) -> Found
+pub fn coplanar(a: Projected, b: Projected, c: Projected, near: i64, far: i64) -> Option<WideDepth>
     requires { Close a × (Close b × Close c) }
     ensures { Finds result (coplanar a b c near far) }
 {
-    let upright = in_plane(
-        up_point(a),
-        up_point(b),
-        up_point(c),
-        near,
-        far,
-        Found::Miss,
-    );
+    let upright = in_plane(up_point(a), up_point(b), up_point(c), near, far, None);
     in_plane(
         across_point(a),
         across_point(b),

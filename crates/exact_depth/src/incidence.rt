@@ -6,7 +6,7 @@ use crate::projection::Projected;
 use crate::{orientation, sides};
 
 // Where a line passes a triangle: outside of it, through it at one point, or in its plane.
-#[derive(Clone, Copy)]
+#[derive(Clone, Copy, Debug, PartialEq, Eq)]
 pub enum Incidence {
     Outside,
     Crossing,
@@ -17,26 +17,14 @@ pub enum Incidence {
 fn any_negative(x: i64, y: i64, z: i64) -> bool
     ensures { result ≡ any_negative x y z }
 {
-    if x < 0 {
-        return true;
-    }
-    if y < 0 {
-        return true;
-    }
-    z < 0
+    x < 0 || y < 0 || z < 0
 }
 
 // Whether one of the three is above 0.
 fn any_positive(x: i64, y: i64, z: i64) -> bool
     ensures { result ≡ any_positive x y z }
 {
-    if 0 < x {
-        return true;
-    }
-    if 0 < y {
-        return true;
-    }
-    0 < z
+    0 < x || 0 < y || 0 < z
 }
 
 // By the signs of three weights.
@@ -71,10 +59,7 @@ pub fn incidence_of(a: Projected, b: Projected, c: Projected) -> Incidence
     requires { Close a × (Close b × Close c) }
     ensures { Incident a b c result }
 {
-    if sides::one_side(a.across, b.across, c.across) {
-        return Incidence::Outside;
-    }
-    if sides::one_side(a.up, b.up, c.up) {
+    if sides::one_side(a.across, b.across, c.across) || sides::one_side(a.up, b.up, c.up) {
         return Incidence::Outside;
     }
     by_orientations(a, b, c)

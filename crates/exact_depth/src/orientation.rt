@@ -4,6 +4,7 @@ ghost use Rattle.wide_integers.specs.Determinant.{determinant};
 ghost use Rattle.exact_depth.specs.Orientation.{LimbsOf, LimbsSized, SignOf, high_part, middle_part, low_part};
 
 // A number as high · 2^31 + low, with low from 0 to below 2^31.
+// A type of its own: Double and Long of wide_integers are read by other bases, which one type would not say.
 #[derive(Clone, Copy)]
 pub struct Limbs {
     pub high: i64,

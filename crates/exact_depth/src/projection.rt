@@ -20,9 +20,3 @@ pub struct Fraction {
     pub t: i64,
     pub w: i64,
 }
-
-#[derive(Clone, Copy)]
-pub enum Depth {
-    At(Fraction),
-    Miss,
-}

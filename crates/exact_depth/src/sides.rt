@@ -5,16 +5,5 @@ ghost use Rattle.exact_depth.specs.Sides.{OneSide};
 pub fn one_side(x: i64, y: i64, z: i64) -> bool
     ensures { result ≡ true → OneSide x y z }
 {
-    if 0 < x {
-        if 0 < y {
-            return 0 < z;
-        }
-        return false;
-    }
-    if x < 0 {
-        if y < 0 {
-            return z < 0;
-        }
-    }
-    false
+    (0 < x && 0 < y && 0 < z) || (x < 0 && y < 0 && z < 0)
 }

@@ -6,6 +6,5 @@ pub mod OpenedState
 pub mod KeptLists
 pub mod WholeListing
 pub mod BelowCount
-pub mod MetGathering
 pub mod Listings
 pub mod Promises

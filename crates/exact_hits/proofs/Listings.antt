@@ -1,4 +1,5 @@
 -- The exact listing's answers over a mesh: each refusal, and the hits of the walk's list. Assumes nothing.
+use Rattle.std.specs.Prelude.{Option, Some, None}
 use Prim.Native.Nat.{ℕ, ◌*◌}
 use mathlib.Core.Path.{◌≡◌, ap, subst, ◌∙◌}
 use mathlib.Core.Bool.{Bool, true, false, ◌&&◌}
@@ -17,8 +18,6 @@ use Rattle.tree.specs.Layout.{Tree, box_at}
 use Rattle.tree.specs.Mesh.{Mesh, thirds, lengths_admitted}
 use Rattle.tree_walk.specs.Walk.{ended}
 use Rattle.tree_walk.specs.Areas.{listed}
-use Rattle.tree_walk.specs.declared.step.Filled.{Filled}
-use Rattle.tree_walk.specs.declared.step.Filled.TheVariants.{Count, Broken}
 use Rattle.tree_query.specs.Query.{walk_fits}
 use Rattle.mesh.specs.MeshCast.{shape_admitted, room_for}
 use Rattle.mesh_hits.specs.HitArea.{HitArea, Outcome, refused_at}
@@ -30,7 +29,7 @@ use Rattle.exact_hits.specs.LineWalk.{walk_box, line_walk}
 use Rattle.exact_hits.specs.ExactListing.{exact_listing, listing_tests, tests_pass, ray_mesh_exact_all}
 
 -- ---- past refusals 1, 12 of the ray and 2 to 4
-module _ (r : Ray) (triangles : List ℕ) (pose : List Float) (t : Tree) (area : HitArea) (x : Filled) (exit : List ℕ)
+module _ (r : Ray) (triangles : List ℕ) (pose : List Float) (t : Tree) (area : HitArea) (x : Option ℕ) (exit : List ℕ)
     (w : ended t (thirds (length triangles)) (walk_box (grid_line r) (box_at t.node_boxes 0)) (listed [] x exit)
     ≡ line_walk (grid_line r) t (thirds (length triangles))) where
   abbrev n : ℕ
@@ -42,17 +41,17 @@ module _ (r : Ray) (triangles : List ℕ) (pose : List Float) (t : Tree) (area :
   abbrev answer : ℕ → Answer
   answer = exact_answer r pose triangles
 
-  walked : (y : Filled) → x ≡ y → ended t n box (listed [] y exit) ≡ line_walk (grid_line r) t n
-  walked y e = subst (λ (z : Filled). ended t n box (listed [] z exit) ≡ line_walk (grid_line r) t n) e w
+  walked : (y : Option ℕ) → x ≡ y → ended t n box (listed [] y exit) ≡ line_walk (grid_line r) t n
+  walked y e = subst (λ (z : Option ℕ). ended t n box (listed [] z exit) ≡ line_walk (grid_line r) t n) e w
 
-  pub listing_broken : x ≡ Broken → (o : Outcome) → o ≡ refused_at out_of_bounds area → o ≡ exact_listing r triangles pose t area
+  pub listing_broken : x ≡ None → (o : Outcome) → o ≡ refused_at out_of_bounds area → o ≡ exact_listing r triangles pose t area
   unfolding exact_listing over_walk ended
-  listing_broken e o a = a ∙ ap (over_walk answer area) (walked Broken e)
+  listing_broken e o a = a ∙ ap (over_walk answer area) (walked None e)
 
-  pub listing_walked : (k : ℕ) (o : Outcome) → x ≡ Count k → o ≡ listing_of answer area (sorted (take k exit))
+  pub listing_walked : (k : ℕ) (o : Outcome) → x ≡ Some k → o ≡ listing_of answer area (sorted (take k exit))
       → o ≡ exact_listing r triangles pose t area
   unfolding exact_listing over_walk ended
-  listing_walked k o e a = a ∙ ap (over_walk answer area) (walked (Count k) e)
+  listing_walked k o e a = a ∙ ap (over_walk answer area) (walked (Some k) e)
 
 -- ---- those refusals, in their order
 module _ (r : Ray) (m : Mesh) (pose : List Float) (t : Tree) (list stack : ℕ) (area : HitArea) where

@@ -1,4 +1,5 @@
 -- The walk of the nodes that a line opens, over its areas: what is left of it gives the whole. Assumes nothing.
+use Rattle.std.specs.Prelude.{Some, None}
 use Prim.Native.Nat.{ℕ, zero, suc, ◌+◌, ◌-◌, ◌<◌, ◌≤◌}
 use mathlib.Core.Path.{◌≡◌, refl, sym, ap, subst, ◌∙◌}
 use mathlib.Core.Bool.{Bool, true, false, cond}
@@ -11,7 +12,6 @@ use Rattle.lists.specs.Lists.{every}
 use Rattle.tree.specs.Layout.{Tree}
 use Rattle.tree_walk.specs.Walk.{Walking, walking, broken, times, take_node, start, ended}
 use Rattle.tree_walk.specs.Areas.{on_stack, popped, Grown, Stands, NodeRoom, NodeTaken, WalkRoom}
-use Rattle.tree_walk.specs.declared.step.Filled.TheVariants.{Count, Broken}
 use Rattle.tree_walk.specs.declared.step.Stepped.{Stepped}
 use Rattle.tree_walk.specs.declared.step.Stepped.TheVariants.{Next, Ended, Stopped}
 use Rattle.tree_walk.proofs.Places.{grown_none, grown_twice}
@@ -104,7 +104,7 @@ module _ (line : View) (n : ℕ) (box : Aabb) (t : Tree) (list₀ stack₀ : Lis
 
   module _ (list stack : List ℕ) (node top found taken : ℕ) (w : OpenedSoFar list stack node top found taken) where
     -- a node is still to be taken when as many were taken as there are
-    pub opened_past : t.node_count ≤ taken → (list' : List ℕ) → Gathered line n box t list₀ Broken list'
+    pub opened_past : t.node_count ≤ taken → (list' : List ℕ) → Gathered line n box t list₀ None list'
     unfolding times ended
     opened_past h list' = record {
       holds = λ l sees.
@@ -158,7 +158,7 @@ module _ (line : View) (n : ℕ) (box : Aabb) (t : Tree) (list₀ stack₀ : Lis
               high = m ∙ w.high;
             }
 
-        pub opened_stopped : r ≡ Stopped → Gathered line n box t list₀ Broken list'
+        pub opened_stopped : r ≡ Stopped → Gathered line n box t list₀ None list'
         opened_stopped e = record {
           holds = λ l sees.
               ap (ended t n box) (sym (times_broken t n box (node_opens l box t) (t.node_count - (taken + 1))))
@@ -166,7 +166,7 @@ module _ (line : View) (n : ℕ) (box : Aabb) (t : Tree) (list₀ stack₀ : Lis
           grown = tt;
         }
 
-        pub opened_ended : (more : ℕ) → r ≡ Ended more → Gathered line n box t list₀ (Count more) list'
+        pub opened_ended : (more : ℕ) → r ≡ Ended more → Gathered line n box t list₀ (Some more) list'
         opened_ended more e =
             let d' : OpenedTaken line n box t list found stack node top (Ended more) list' stack' = taken_is (Ended more) e in
             record {

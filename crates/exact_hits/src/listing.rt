@@ -9,16 +9,15 @@ ghost use Rattle.exact_hits.specs.ExactListing.{exact_listing};
 ghost use Rattle.exact_hits.specs.Promise.{ListsExact};
 
 use crate::{rows, walk};
-use casts::answer;
+use casts::answer::Refusal;
 use exact_triangle::view;
-use exact_triangle::view::{GridView, View};
+use exact_triangle::view::View;
 use geometry::ray::Ray;
 use mesh::cast;
 use mesh_exact::bounds;
 use mesh_hits::places;
 use tree_query::query;
 use tree_query::query::Listed;
-use tree_walk::step::Filled;
 
 // The listing once refusals 1, 12 of the ray and 2 to 4 have let it pass; the list and the stack may hold anything afterwards.
 fn exact_listing(
@@ -55,8 +54,8 @@ fn exact_listing(
         list,
         stack,
     );
-    let Filled::Count(found) = walked else {
-        return places::refuse(answer::OUT_OF_BOUNDS, indices, numbers);
+    let Some(found) = walked else {
+        return places::refuse(Refusal::OutOfBounds, indices, numbers);
     };
     rows::list_met(ray, line, pose, triangles, list, found, indices, numbers)
 }
@@ -90,14 +89,14 @@ pub fn ray_mesh_exact_all(
         (record { answer = says_listed result; area = hit_area indices.new numbers.new }) }
 {
     if !ray.validate() {
-        return Listed::Refused(answer::INVALID_INPUT);
+        return Err(Refusal::InvalidInput);
     }
     let viewed = view::view_of(ray);
-    let GridView::On(line) = viewed else {
-        return Listed::Refused(answer::OUT_OF_RANGE);
+    let Some(line) = viewed else {
+        return Err(Refusal::OutOfRange);
     };
     if !cast::shape_admitted(vertices.len(), triangles.len(), pose.len(), nodes) {
-        return Listed::Refused(answer::BAD_SHAPE);
+        return Err(Refusal::BadShape);
     }
     if !query::walk_fits(
         triangles.len() / 3,
@@ -109,10 +108,10 @@ pub fn ray_mesh_exact_all(
         list.len(),
         stack.len(),
     ) {
-        return Listed::Refused(answer::NO_ROOM);
+        return Err(Refusal::NoRoom);
     }
     if pose.len() != vertices.len() {
-        return Listed::Refused(answer::WRONG_POSE);
+        return Err(Refusal::WrongPose);
     }
     exact_listing(
         ray,

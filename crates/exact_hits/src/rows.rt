@@ -1,86 +1,36 @@
-ghost use Rattle.std.specs.Prelude.{◌≡◌, true, ◌++◌, ◌*◌, ◌≤◌, length, take, drop};
-ghost use Rattle.nearest_hit.specs.Summary.{nothing, summary_from, says_nearest_so_far};
+ghost use Rattle.std.specs.Prelude.{◌≡◌, true, ◌+◌, ◌*◌, ◌≤◌, length, take};
+ghost use Rattle.casts.specs.Answer.{says};
+ghost use Rattle.casts.specs.Reach.{At, reach_of};
 ghost use Rattle.lists.specs.Lists.{sorted, all_below};
 ghost use Rattle.tree.specs.Mesh.{thirds};
 ghost use Rattle.tree_query.specs.Query.{says_listed};
-ghost use Rattle.mesh_hits.specs.HitArea.{hit_area, numbers_of};
+ghost use Rattle.mesh_hits.specs.HitArea.{hit_area};
 ghost use Rattle.mesh_hits.specs.HitListing.{listing_of};
-ghost use Rattle.mesh_hits.specs.Rows.{Stored, HitsInPlaces};
 ghost use Rattle.geometry.specs.Segment.{ray_admitted};
-ghost use Rattle.geometry.specs.declared.ray.Ray.{Ray as AnyRay};
 ghost use Rattle.exact_triangle.specs.Grid.{grid_admitted};
-ghost use Rattle.exact_triangle.specs.View.{ViewSized};
 ghost use Rattle.mesh_exact.specs.GridCast.{exact_answer};
 ghost use Rattle.mesh_exact.specs.Noted.{Casts};
 
+use casts::answer::Cast;
 use exact_triangle::cast as triangle;
 use exact_triangle::view::View;
 use geometry::ray::Ray;
-use mesh_hits::gathering::Gathered;
 use mesh_hits::{gathering, places, sorted};
-use nearest_hit::summary;
 use tree::mesh as triangle_mesh;
 use tree_exact::walk;
 use tree_query::query::Listed;
 
-// The notes of the triangles in the first places of a list, and those that are met, in the list's order, as the rounded listing gathers
-// them.
-fn gather_met(
-    line: View,
-    pose: &[f64],
-    triangles: &[u32],
-    list: &[u32],
-    found: usize,
-    places: usize,
-    indices: &mut [u32],
-    numbers: &mut [f64],
-) -> Gathered
-    requires { (ViewSized line) × ((found ≤ length list.now) × ((all_below (thirds (length triangles.now)) (take found list.now)
-        ≡ true) × ((places ≤ length indices.old) × (4 * places ≤ length numbers.old)))) }
-    ensures { (ray : AnyRay) → Casts ray line
-        → (says_nearest_so_far result.notes ≡ summary_from (exact_answer ray pose.now triangles.now) nothing
-        (take found list.now)) × Stored (exact_answer ray pose.now triangles.now)
-        (take found list.now) places indices.old numbers.old result.hits indices.new
-        numbers.new }
+// The hit of a triangle at the distance that it is reached at.
+fn hit_of(ray: Ray, pose: &[f64], triangles: &[u32], index: usize, distance: f64) -> Cast
+    requires { ((ray_admitted ray ≡ true) × (grid_admitted ray ≡ true)) × ((3 * index + 3 ≤ length triangles.now)
+        × (reach_of (exact_answer ray pose.now triangles.now index) ≡ At distance)) }
+    ensures { says result ≡ exact_answer ray pose.now triangles.now index }
 {
-    let mut notes = summary::empty();
-    let mut hits: usize = 0;
-    let mut i: usize = 0;
-    while i < found {
-        let index = list[i];
-        let reach = walk::reach_at(line, pose, triangles, index as usize);
-        notes = summary::note(notes, index, reach);
-        hits = gathering::store(index, reach, hits, places, indices, numbers);
-        i += 1;
-    }
-    Gathered {
-        notes: notes,
-        hits: hits,
-    }
-}
-
-// The normals of hits whose distances stand at their places.
-fn put_normals(
-    ray: Ray,
-    pose: &[f64],
-    triangles: &[u32],
-    indices: &[u32],
-    count: usize,
-    numbers: &mut [f64],
-)
-    requires { ((ray_admitted ray ≡ true) × (grid_admitted ray ≡ true)) × (HitsInPlaces (exact_answer ray pose.now triangles.now)
-        (thirds (length triangles.now)) indices.now count numbers.old) }
-    ensures { numbers.new ≡ numbers_of (exact_answer ray pose.now triangles.now)
-        (take count indices.now) ++ drop (4 * count) numbers.old }
-{
-    let mut i: usize = 0;
-    while i < count {
-        let index = indices[i];
-        let corners = triangle_mesh::corners_of(pose, triangles, index as usize);
-        let hit = triangle::hit_on(ray, corners, numbers[4 * i]);
-        places::put_place(hit, 4 * i, numbers);
-        i += 1;
-    }
+    triangle::hit_on(
+        ray,
+        triangle_mesh::corners_of(pose, triangles, index),
+        distance,
+    )
 }
 
 // The listing of the triangles in the first places of a list: as if they stood there ascending, in whatever order they do.
@@ -101,11 +51,19 @@ pub fn list_met(
         (hit_area indices.old numbers.old) (sorted (take found list.old)) }
 {
     let room = places::places_of(indices.len(), numbers.len());
-    let gathered = gather_met(line, pose, triangles, list, found, room, indices, numbers);
-    let rows = sorted::arrange(gathered, room, list, indices, numbers);
-    let Listed::Count(count) = rows else {
-        return rows;
-    };
-    put_normals(ray, pose, triangles, indices, count, numbers);
-    Listed::Count(count)
+    let gathered = gathering::gather(
+        |index| walk::reach_at(line, pose, triangles, index as usize),
+        &list[..found],
+        room,
+        indices,
+        numbers,
+    );
+    let count = sorted::arrange(gathered, room, list, indices, numbers)?;
+    places::put_normals(
+        |index, distance| hit_of(ray, pose, triangles, index as usize, distance),
+        indices,
+        count,
+        numbers,
+    );
+    Ok(count)
 }

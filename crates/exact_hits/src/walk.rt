@@ -1,6 +1,6 @@
 ghost use Rattle.std.specs.Prelude.{◌≡◌, ◌<◌, ◌≤◌, length};
 ghost use Rattle.tree.specs.Layout.{tree_of};
-ghost use Rattle.tree_walk.specs.Areas.{popped, NodeRoom, WalkRoom};
+ghost use Rattle.tree_walk.specs.Areas.{NodeRoom, WalkRoom};
 ghost use Rattle.exact_triangle.specs.Line.{Line};
 ghost use Rattle.exact_triangle.specs.Box.{certain_box};
 ghost use Rattle.exact_triangle.specs.View.{Sees, ViewSized};
@@ -12,7 +12,7 @@ use geometry::aabb::Aabb;
 use tree::layout;
 use tree_exact::boxes;
 use tree_walk::step;
-use tree_walk::step::{Filled, Stepped};
+use tree_walk::step::Stepped;
 
 // Whether the line can meet a box on the segment: any box, where the segment is short.
 fn line_meets(line: View, bounds: Aabb) -> bool
@@ -34,22 +34,6 @@ fn box_opens(line: View, reach: Aabb, bounds: Aabb) -> bool
         return false;
     }
     line_meets(line, bounds)
-}
-
-// The next node taken from the stack; with none there the walk has ended.
-fn pop(stack: &[u32], top: usize, found: usize) -> Stepped
-    requires { top ≤ length stack.now }
-    ensures { result ≡ popped stack.now top found }
-{
-    if top == 0 {
-        return Stepped::Ended(found);
-    }
-    let below = top - 1;
-    Stepped::Next {
-        node: stack[below] as usize,
-        top: below,
-        found: found,
-    }
 }
 
 // One node: as the query takes it if it is opened.
@@ -75,7 +59,7 @@ fn take_opened(
         stack.new }
 {
     if !box_opens(line, reach, layout::box_at(node_boxes, node)) {
-        return pop(stack, top, found);
+        return step::pop(stack, top, found);
     }
     step::take_node(
         reach,
@@ -106,7 +90,7 @@ fn gather_opened(
     order: &[u32],
     list: &mut [u32],
     stack: &mut [u32],
-) -> Filled
+) -> Option<usize>
     requires { (ViewSized line × (0 < nodes)) × WalkRoom count
         (tree_of nodes node_boxes.now triangle_boxes.now node_words.now order.now) list.old stack.old }
     ensures { Gathered line count reach (tree_of nodes node_boxes.now triangle_boxes.now
@@ -115,8 +99,7 @@ fn gather_opened(
     let mut next: usize = 0;
     let mut height: usize = 0;
     let mut listed: usize = 0;
-    let mut taken: usize = 0;
-    while taken < nodes {
+    for _taken in 0..nodes {
         let step = take_opened(
             line,
             reach,
@@ -137,17 +120,16 @@ fn gather_opened(
                 next = node;
                 height = top;
                 listed = found;
-                taken += 1;
             }
             Stepped::Ended(found) => {
-                return Filled::Count(found);
+                return Some(found);
             }
             Stepped::Stopped => {
-                return Filled::Broken;
+                return None;
             }
         }
     }
-    Filled::Broken
+    None
 }
 
 // The box that the walk goes by, given the segment's and the tree's first one: where the first one is out of the grid's range, itself.
@@ -172,14 +154,14 @@ pub fn gather_line(
     order: &[u32],
     list: &mut [u32],
     stack: &mut [u32],
-) -> Filled
+) -> Option<usize>
     requires { ViewSized line × WalkRoom count
         (tree_of nodes node_boxes.now triangle_boxes.now node_words.now order.now) list.old stack.old }
     ensures { LineGathered line reach count (tree_of nodes node_boxes.now triangle_boxes.now
         node_words.now order.now) list.old result list.new }
 {
     if nodes == 0 {
-        return Filled::Count(0);
+        return Some(0);
     }
     let bounds = walk_box(reach, layout::box_at(node_boxes, 0));
     gather_opened(

@@ -1,4 +1,6 @@
 -- One triangle's answer is certain. Assumes nothing.
+use Rattle.std.specs.Prelude.{Option, Some, None}
+use Rattle.exact_depth.specs.declared.projection.Fraction.{Fraction}
 use Rattle.std.proofs.Common.{◌≡◌, ℕ, zero, suc, ◌+◌, ◌*◌, ◌<◌, Bool, true, false, cond, List, ℤ, pos, negsuc, ◌*ℤ◌, nat_abs, sym, refl, ap}
 use Rattle.std.proofs.Common.{◌∙◌, subst, zero-lt-suc, arith}
 use lib.Signed.{le_z}
@@ -7,11 +9,8 @@ use Rattle.vectors.specs.declared.vec3.Vec3.{Vec3}
 use Rattle.geometry.specs.declared.ray.Ray.{Ray}
 use Rattle.geometry.specs.Box.{corner}
 use Rattle.geometry.specs.Segment.{ray_admitted}
-use Rattle.casts.specs.declared.answer.Reach.{Reach}
-use Rattle.casts.specs.declared.answer.Reach.TheVariants.{At, Miss, Refused}
+use Rattle.casts.specs.Reach.{Reach, At, Miss, Refused}
 use Rattle.casts.specs.Answer.{out_of_range}
-use Rattle.exact_depth.specs.declared.projection.Depth.{Depth}
-use Rattle.exact_depth.specs.declared.projection.Depth.TheVariants.{At as Met, Miss as Unmet}
 use Rattle.wide_integers.proofs.Polynomials.{own, own_pos, rep_mul}
 use Rattle.wide_integers.proofs.Order.{rep_le, rep_same}
 use Rattle.exact_depth.specs.declared.projection.Point.{Point}
@@ -75,14 +74,14 @@ module _ (l : Line) (a b c : Point) where
       one zero p = absurd (omega (arith, p))
       one (suc n) p = refl
 
-  depth_reach : (d : Depth) → Certain l a b c d → CertainReach l a b c (reach_at d)
-  depth_reach Unmet h = record {
+  depth_reach : (d : Option Fraction) → Certain l a b c d → CertainReach l a b c (reach_at d)
+  depth_reach None h = record {
     none = λ e. h.none refl;
     area = λ x e. absurd (let w = ap kind e in omega (arith, w));
     nearest = λ x e. absurd (let w = ap kind e in omega (arith, w));
     told = λ n e. let w = ap kind e in omega (arith, w);
   }
-  depth_reach (Met f) h = record {
+  depth_reach (Some f) h = record {
     none = λ e. absurd (let w = ap kind e in omega (arith, w));
     area = λ x e. h.area f refl;
     nearest = λ x e. subst (Nearest l a b c) (ap (distance x) e) (nearest_of_lem f.t f.w (h.first f refl));

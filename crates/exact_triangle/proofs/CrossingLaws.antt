@@ -1,20 +1,18 @@
 -- A triangle that the line crosses is reached at the float nearest to the crossing's depth, where that lies between the segment's ends, and
 -- is missed where it lies outside of them: rounding keeps the order, so only at an end nothing is decided. Assumes nothing.
+use Rattle.std.specs.Prelude.{Some, None}
 use Rattle.std.proofs.Common.{◌≡◌, ℕ, zero, suc, ◌*◌, ◌<◌, Bool, true, false, cond, ℤ, pos, negsuc, ◌*ℤ◌, neg_ℤ, sym, refl, ap, ◌∙◌, subst}
 use Rattle.std.proofs.Common.{inl, inr, mul-pos, arith, lit<}
 use mathlib.Core.Bool.{false≢true}
 use lib.Signed.{lt_z}
 use lib.Ieee.{Float, nan, binary64, round, lt}
 use Rattle.arithmetic.proofs.Order.{lt_nan_false, nan_lt_false}
-use Rattle.casts.specs.declared.answer.Reach.{Reach}
-use Rattle.casts.specs.declared.answer.Reach.TheVariants.{At as Reached, Miss as Missed}
+use Rattle.casts.specs.Reach.{At as Reached, Miss as Missed}
 use Rattle.wide_integers.specs.Division.{fraction_of}
-use Rattle.wide_integers.proofs.Polynomials.{ring, own, own_pos}
+use Rattle.wide_integers.proofs.Polynomials.{ring, own_pos}
 use Rattle.wide_integers.proofs.Order.{rep_lt, lt_rep}
 use Rattle.exact_depth.specs.declared.projection.Point.{Point}
 use Rattle.exact_depth.specs.declared.projection.Projected.{Projected}
-use Rattle.exact_depth.specs.declared.projection.Depth.{Depth}
-use Rattle.exact_depth.specs.declared.projection.Depth.TheVariants.{At, Miss}
 use Rattle.exact_depth.specs.FirstPoint.{kept}
 use Rattle.exact_depth.specs.Incidence.{Crosses}
 use Rattle.exact_triangle.specs.Line.{parts, Line}
@@ -81,24 +79,24 @@ module _ (l : Line) (a b c : Point) (k : Crosses (projected_of l a) (projected_o
   abbrev high : Bool
   high = lt_z (pos (l.far * g) *ℤ k.at.w) depth
 
-  depth_is : depth_of l a b c ≡ in_units g (cond low Miss (cond high Miss (At k.at)))
+  depth_is : depth_of l a b c ≡ in_units g (cond low None (cond high None (Some k.at)))
   unfolding depth_of kept
   depth_is = ap (in_units g) (k.first (pos (l.near * g)) (pos (l.far * g)))
 
   too_low : low ≡ true → Missed ≡ reach_at (depth_of l a b c)
-  too_low h = sym (ap reach_at (depth_is ∙ ap (λ (q : Bool). in_units g (cond q Miss (cond high Miss (At k.at)))) h))
+  too_low h = sym (ap reach_at (depth_is ∙ ap (λ (q : Bool). in_units g (cond q None (cond high None (Some k.at)))) h))
 
   too_high : high ≡ true → Missed ≡ reach_at (depth_of l a b c)
-  too_high h = sym (ap reach_at (depth_is ∙ ap (λ (q : Bool). in_units g (cond low Miss (cond q Miss (At k.at)))) h ∙ go low))
+  too_high h = sym (ap reach_at (depth_is ∙ ap (λ (q : Bool). in_units g (cond low None (cond q None (Some k.at)))) h ∙ go low))
     where
-      go : (q : Bool) → in_units g (cond q Miss Miss) ≡ Miss
+      go : (q : Bool) → in_units g (cond q None None) ≡ None
       go true = refl
       go false = refl
 
   there : low ≡ false → high ≡ false → Reached (fraction_of depth (pos whole *ℤ pos units)) ≡ reach_at (depth_of l a b c)
   there h e =
       ap (λ (w : ℤ). Reached (fraction_of depth (w *ℤ pos g *ℤ pos units))) (sym k.denominator)
-      ∙ sym (ap reach_at (depth_is ∙ (λ i. in_units g (cond (h i) Miss (cond (e i) Miss (At k.at))))))
+      ∙ sym (ap reach_at (depth_is ∙ (λ i. in_units g (cond (h i) None (cond (e i) None (Some k.at))))))
 
   -- the ends, as natural numbers
   module _ (n : ℕ) (e : depth ≡ pos n) where

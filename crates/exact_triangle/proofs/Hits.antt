@@ -3,16 +3,14 @@ use Rattle.std.proofs.Common.{◌≡◌, ℕ, Bool, true, false, cond, List, ℤ
 use lib.Ieee.{Float}
 use Rattle.vectors.specs.Vector.{dot_of}
 use Rattle.vectors.specs.declared.vec3.Vec3.{Vec3}
-use Rattle.vectors.specs.declared.vec3.Normalized.{Normalized}
-use Rattle.vectors.specs.declared.vec3.Normalized.TheVariants.{Unit as UnitOf}
+use Rattle.std.specs.Prelude.{Option, Some}
 use Rattle.geometry.specs.declared.ray.Ray.{Ray}
 use Rattle.geometry.specs.Box.{corner}
 use Rattle.geometry.specs.Segment.{ray_admitted}
 use Rattle.casts.specs.Answer.{Answer, hit, none, refused, with_normal, no_normal, out_of_range}
 use Rattle.casts.specs.Reach.{reach_of}
 use Rattle.casts.specs.Surface.{facing}
-use Rattle.casts.specs.declared.answer.Reach.{Reach}
-use Rattle.casts.specs.declared.answer.Reach.TheVariants.{At, Miss, Refused}
+use Rattle.casts.specs.Reach.{Reach, At, Miss, Refused}
 use Rattle.wide_integers.specs.Sizes.{Sized}
 use Rattle.wide_integers.specs.Determinant.{determinant}
 use Rattle.wide_integers.proofs.Reading.{product_size, difference_size}
@@ -91,11 +89,11 @@ number none = 0
 number (refused k) = 1
 
 -- a hit has a normal
-hit_told : (r : Ray) (n : Point) (u : Vec3) (x : Float) → normal_of n ≡ UnitOf u
+hit_told : (r : Ray) (n : Point) (u : Vec3) (x : Float) → normal_of n ≡ Some u
     → grid_normal r n x ≡ hit (facing u (dot_of r.direction u)) x
 unfolding grid_normal
 hit_told r n u x e =
-    ap (λ (k : Normalized). with_normal k no_normal (λ (v : Vec3). hit (facing v (dot_of r.direction v)) x)) e
+    ap (λ (k : Option Vec3). with_normal k no_normal (λ (v : Vec3). hit (facing v (dot_of r.direction v)) x)) e
 
 hit_at_lem : (r : Ray) (vs : List Vec3) → ray_admitted r ≡ true → grid_admitted r ≡ true → corners_read vs ≡ true → (x : Float)
     → grid_reach r vs ≡ At x → (normal : Vec3) × (grid_normal r (cross_at vs) x ≡ hit normal x)

@@ -12,7 +12,7 @@ use Rattle.arithmetic.proofs.SumOrder.{le_parts}
 use Rattle.arithmetic.proofs.RoundedOrder.{plain_mono}
 use Rattle.vectors.specs.Numbers.{zeroᶠ}
 use Rattle.vectors.specs.Vector.{finite_vec, zero_vec, normalizable, dot_tells, scaled_to_one, over_length, try_normalize}
-use Rattle.vectors.specs.declared.vec3.Normalized.TheVariants.{Unit as UnitOf, Degenerate}
+use Rattle.std.specs.Prelude.{Some, None}
 use Rattle.vectors.specs.declared.vec3.Vec3.{Vec3}
 use Rattle.wide_integers.specs.Sizes.{Sized}
 use Rattle.exact_depth.specs.declared.projection.Point.{Point}
@@ -120,9 +120,9 @@ has_normal_lem a b c h s =
 
 -- .. and the normal is told, never refused
 pub unit_normal : (a b c : Point) → Apart a b c → Crossed (cross_of a b c)
-    → normal_of (cross_of a b c) ≡ UnitOf (over_length (cond (dot_tells (floats_of (cross_of a b c))) (floats_of (cross_of a b c))
+    → normal_of (cross_of a b c) ≡ Some (over_length (cond (dot_tells (floats_of (cross_of a b c))) (floats_of (cross_of a b c))
     (scaled_to_one (floats_of (cross_of a b c)))))
 unfolding try_normalize
 unit_normal a b c h s =
-    ap (λ (k : Bool). cond k (UnitOf (over_length (cond (dot_tells (floats_of (cross_of a b c))) (floats_of (cross_of a b c))
-    (scaled_to_one (floats_of (cross_of a b c)))))) Degenerate) (has_normal_lem a b c h s)
+    ap (λ (k : Bool). cond k (Some (over_length (cond (dot_tells (floats_of (cross_of a b c))) (floats_of (cross_of a b c))
+    (scaled_to_one (floats_of (cross_of a b c)))))) None) (has_normal_lem a b c h s)

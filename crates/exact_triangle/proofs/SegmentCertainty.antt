@@ -1,13 +1,12 @@
 -- One triangle's answer is certain in any direction: none exactly if no point of the segment lies in it, and else the first. Assumes
 -- nothing.
+use Rattle.std.specs.Prelude.{Option, Some, None}
 use Rattle.std.proofs.Common.{◌≡◌, ℕ, ◌+◌, ◌*◌, ◌<◌, ◌≤◌, Bool, true, false, cond, ◌&&◌, leb, ℤ, pos, negsuc, ◌-ℤ◌, ◌*ℤ◌, nat_abs, sym}
 use Rattle.std.proofs.Common.{refl, ap, ◌∙◌, subst, true≢false, mul-le-mul_right, mul-pos, arith, lit<, leb-false, leb-true}
 use mathlib.Core.Bool.{false≢true}
 use lib.Signed.{le_z}
 use Rattle.exact_depth.specs.declared.projection.Projected.{Projected}
 use Rattle.exact_depth.specs.declared.projection.Fraction.{Fraction}
-use Rattle.exact_depth.specs.declared.projection.Depth.{Depth}
-use Rattle.exact_depth.specs.declared.projection.Depth.TheVariants.{At, Miss}
 use Rattle.exact_depth.specs.FirstPoint.{first_point}
 use Rattle.exact_depth.specs.Meeting.{mix, Meets, On, HasArea, Reached, First}
 use Rattle.wide_integers.proofs.Integers.{pp, np}
@@ -207,7 +206,7 @@ module _ (l : Line) (a b c : Point) (moves : Moves l.direction) where
     most = ap (λ (n : ℕ). le_z t (pos n)) (sym (regroup l.far D)) ∙ o.most;
   }
 
-  abbrev answer : Depth
+  abbrev answer : Option Fraction
   answer = first_point (projected_of l a) (projected_of l b) (projected_of l c) (pos (l.near * g)) (pos (l.far * g))
 
   tells : First (pos (l.near * g)) (pos (l.far * g)) (projected_of l a) (projected_of l b) (projected_of l c) answer
@@ -240,14 +239,15 @@ module _ (l : Line) (a b c : Point) (moves : Moves l.direction) where
   there : HasArea (projected_of l a) (projected_of l b) (projected_of l c) → Apart a b c
   there = area_there m l.direction l.origin a b c
 
-  units_certain : (x : Depth) → First (pos (l.near * g)) (pos (l.far * g)) (projected_of l a) (projected_of l b) (projected_of l c) x
+  units_certain : (x : Option Fraction) → First (pos (l.near * g)) (pos (l.far * g)) (projected_of l a) (projected_of l b) (projected_of
+      l c) x
       → Certain l a b c (in_units g x)
-  units_certain Miss p = record {
+  units_certain None p = record {
     none = λ e h D t s. p.none refl (apart h) D (t *ℤ pos g) (on_of D t s);
     area = λ f e. absurd (false≢true (ap is_at e));
     first = λ f e. absurd (false≢true (ap is_at e));
   }
-  units_certain (At f) p = record {
+  units_certain (Some f) p = record {
     none = λ e. absurd (true≢false (ap is_at e));
     area = λ f' e. there (p.area f refl);
     first = λ f' e. subst (λ (h : Fraction). FirstSurface l a b c h) (ap depthIn e) (first_in f (p.reached f refl));

@@ -19,7 +19,7 @@ unit_is = refl
 unit_value : HasValue unitᶠ false 1 32768
 unit_value = subst (λ (x : Float). HasValue x false 1 32768) (sym unit_is) (refl, refl)
 
-pub in_millimetres_lem : (z : ℤ) → nat_abs z ≤ 4294967298 → mul binary64 (of_int binary64 z) unitᶠ ≡ in_millimetres z
+pub in_millimetres_lem : (z : ℤ) → nat_abs z ≤ 4299161602 → mul binary64 (of_int binary64 z) unitᶠ ≡ in_millimetres z
 unfolding of_int
 in_millimetres_lem (pos n) l =
     mul_values (round binary64 false n 1) unitᶠ false false n 1 1 32768 (lit< tt) (lit< tt)

@@ -6,8 +6,7 @@ use Rattle.geometry.specs.declared.ray.Ray.{Ray}
 use Rattle.geometry.specs.Box.{corner}
 use Rattle.casts.specs.Answer.{Answer, hit, none, refused, with_normal, no_normal, out_of_range}
 use Rattle.casts.specs.Surface.{facing}
-use Rattle.casts.specs.declared.answer.Reach.{Reach}
-use Rattle.casts.specs.declared.answer.Reach.TheVariants.{At, Miss, Refused}
+use Rattle.casts.specs.Reach.{Reach, At, Miss, Refused}
 use Rattle.exact_depth.specs.declared.projection.Point.{Point}
 use Rattle.exact_triangle.specs.Grid.{grid_point}
 use Rattle.exact_triangle.specs.Reach.{corners_read, grid_reach}

@@ -1,9 +1,10 @@
 -- Inner contracts only: the distance of a triangle that the line crosses. Definitions only. Assumes nothing.
+use Rattle.std.specs.Prelude.{Option}
+use Rattle.exact_depth.specs.declared.projection.Fraction.{Fraction}
 use Rattle.std.specs.Prelude.{◌≡◌, true, ◌⊎◌, ℤ, pos, ◌-ℤ◌, ◌*ℤ◌, neg_ℤ, int_lt, Float}
 use Rattle.std.specs.Float.Ieee.{lt}
 use Rattle.wide_integers.specs.Division.{fraction_of}
-use Rattle.exact_depth.specs.declared.projection.Depth.{Depth}
-use Rattle.casts.specs.declared.answer.Reach.TheVariants.{At as Reached, Miss as Missed}
+use Rattle.casts.specs.Reach.{At as Reached, Miss as Missed}
 use Rattle.exact_triangle.specs.Reach.{reach_at}
 use Rattle.exact_triangle.specs.declared.crossing.CrossingDistance.{CrossingDistance}
 use Rattle.exact_triangle.specs.declared.crossing.CrossingDistance.TheVariants.{At, Miss, Undecided}
@@ -35,7 +36,7 @@ abbrev pub AxisPlane : ℤ → ℤ → ℤ → ℤ → ℤ → Float → Float �
 AxisPlane a b c o d start finish r = (r ≡ Undecided) ⊎ InAxisPlane a b c o d start finish r
 
 -- what is decided of a depth
-abbrev pub Decides : Depth → CrossingDistance → Type 0
+abbrev pub Decides : Option Fraction → CrossingDistance → Type 0
 Decides d (At x) = Reached x ≡ reach_at d
 Decides d Miss = Missed ≡ reach_at d
 Decides d Undecided = Unit {0}

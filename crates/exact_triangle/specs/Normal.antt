@@ -1,10 +1,9 @@
 -- The cross of a triangle's edges, in units of the grid. Definitions only. Assumes nothing.
-use Rattle.std.specs.Prelude.{ℤ, ◌+ℤ◌, ◌-ℤ◌, ◌*ℤ◌}
+use Rattle.std.specs.Prelude.{Option, ℤ, ◌+ℤ◌, ◌-ℤ◌, ◌*ℤ◌}
 use Rattle.wide_integers.specs.Determinant.{determinant}
 use Rattle.std.specs.Float.{binary64}
 use Rattle.std.specs.Float.Ieee.{of_int}
 use Rattle.vectors.specs.declared.vec3.Vec3.{Vec3}
-use Rattle.vectors.specs.declared.vec3.Normalized.{Normalized}
 use Rattle.vectors.specs.Vector.{try_normalize}
 use Rattle.exact_depth.specs.declared.projection.Point.{Point}
 
@@ -24,5 +23,5 @@ abbrev pub floats_of : Point → Vec3
 floats_of n = record { x = of_int binary64 n.x; y = of_int binary64 n.y; z = of_int binary64 n.z }
 
 -- the unit normal of a cross
-abbrev pub normal_of : Point → Normalized
+abbrev pub normal_of : Point → Option Vec3
 normal_of n = try_normalize (floats_of n)

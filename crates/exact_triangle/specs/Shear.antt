@@ -1,8 +1,8 @@
 -- A triangle as a line in any direction sees it, and the first point of the segment in it. Definitions only. Assumes nothing.
+use Rattle.std.specs.Prelude.{Option, Some, None}
+use Rattle.exact_depth.specs.declared.projection.Fraction.{Fraction}
 use Rattle.std.specs.Prelude.{ℕ, ◌*◌, cond, ◌&&◌, ℤ, pos, negsuc, ◌-ℤ◌, ◌*ℤ◌, neg_ℤ, nat_le, unsigned_abs}
 use Rattle.exact_depth.specs.declared.projection.Projected.{Projected}
-use Rattle.exact_depth.specs.declared.projection.Depth.{Depth}
-use Rattle.exact_depth.specs.declared.projection.Depth.TheVariants.{At, Miss}
 use Rattle.exact_depth.specs.FirstPoint.{first_point}
 use Rattle.exact_depth.specs.declared.projection.Point.{Point}
 use Rattle.exact_triangle.specs.Line.{parts, Line}
@@ -52,11 +52,11 @@ abbrev pub gain : Line → ℕ
 gain l = unsigned_abs (heading l).depth
 
 -- a depth as a number of the grid's units along the line
-abbrev pub in_units : ℕ → Depth → Depth
-in_units g (At f) = At (record { t = f.t; w = f.w *ℤ pos g })
-in_units g Miss = Miss
+abbrev pub in_units : ℕ → Option Fraction → Option Fraction
+in_units g (Some f) = Some (record { t = f.t; w = f.w *ℤ pos g })
+in_units g None = None
 
 -- the first point of the segment in the closed triangle
-unfoldable pub depth_of : Line → Point → Point → Point → Depth
+unfoldable pub depth_of : Line → Point → Point → Point → Option Fraction
 depth_of l a b c =
     in_units (gain l) (first_point (projected_of l a) (projected_of l b) (projected_of l c) (pos (l.near * gain l)) (pos (l.far * gain l)))

@@ -1,8 +1,7 @@
 -- What one triangle's answer says of the points of a segment in any direction, on the grid. Definitions only. Assumes nothing.
+use Rattle.std.specs.Prelude.{Option, Some, None}
 use Rattle.std.specs.Prelude.{◌≡◌, ℕ, ◌+◌, ◌<◌, true, ℤ, pos, ◌-ℤ◌, ◌*ℤ◌, int_le}
 use Rattle.exact_depth.specs.declared.projection.Fraction.{Fraction}
-use Rattle.exact_depth.specs.declared.projection.Depth.{Depth}
-use Rattle.exact_depth.specs.declared.projection.Depth.TheVariants.{At, Miss}
 use Rattle.wide_integers.specs.Determinant.{determinant}
 use Rattle.exact_depth.specs.Meeting.{mix}
 use Rattle.exact_depth.specs.declared.projection.Point.{Point}
@@ -47,7 +46,7 @@ pub record FirstSurface (l : Line) (a b c : Point) (f : Fraction) : Type 0 where
   pub least : (D' : ℕ) (t' : ℤ) → Surface l a b c D' t' → int_le (f.t *ℤ pos D') (t' *ℤ pos W) ≡ true
 
 -- none exactly if no point of the closed segment lies in the closed triangle with area, and else the first
-pub record Certain (l : Line) (a b c : Point) (answer : Depth) : Type 0 where
-  pub none : answer ≡ Miss → Apart a b c → (D : ℕ) (t : ℤ) → Surface l a b c D t → ⊥
-  pub area : (f : Fraction) → answer ≡ At f → Apart a b c
-  pub first : (f : Fraction) → answer ≡ At f → FirstSurface l a b c f
+pub record Certain (l : Line) (a b c : Point) (answer : Option Fraction) : Type 0 where
+  pub none : answer ≡ None → Apart a b c → (D : ℕ) (t : ℤ) → Surface l a b c D t → ⊥
+  pub area : (f : Fraction) → answer ≡ Some f → Apart a b c
+  pub first : (f : Fraction) → answer ≡ Some f → FirstSurface l a b c f

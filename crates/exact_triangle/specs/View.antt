@@ -1,9 +1,9 @@
 -- What the code's line stands for. Definitions only. Assumes nothing.
-use Rattle.std.specs.Prelude.{◌≡◌, ◌*◌, true, false, ℤ, pos, ◌-ℤ◌, ◌*ℤ◌, unsigned_abs, Float}
+use Rattle.exact_depth.specs.declared.projection.Fraction.{Fraction}
+use Rattle.std.specs.Prelude.{◌≡◌, ◌*◌, true, false, ℤ, pos, ◌-ℤ◌, ◌*ℤ◌, unsigned_abs, Float, Option, Some, None}
 use Rattle.exact_depth.specs.declared.projection.Point.{Point}
 use Rattle.geometry.specs.declared.ray.Ray.{Ray}
 use Rattle.exact_depth.specs.declared.projection.Projected.{Projected}
-use Rattle.exact_depth.specs.declared.projection.Depth.{Depth}
 use Rattle.exact_depth.specs.FirstPoint.{first_point}
 use Rattle.wide_integers.specs.Sizes.{Sized}
 use Rattle.exact_triangle.specs.Line.{Line}
@@ -14,8 +14,6 @@ use Rattle.exact_triangle.specs.Shear.{ahead as ahead_of, heading as headingOf, 
 use Rattle.exact_triangle.specs.declared.view.Axis.{Axis}
 use Rattle.exact_triangle.specs.declared.view.Axis.TheVariants.{X, Y, Z}
 use Rattle.exact_triangle.specs.declared.view.View.{View}
-use Rattle.exact_triangle.specs.declared.view.GridView.{GridView}
-use Rattle.exact_triangle.specs.declared.view.GridView.TheVariants.{On, Off}
 use Rattle.exact_triangle.specs.Sizes.{Near, DirectionSized, HeadingSized}
 
 abbrev pub main_as : Axis → Main
@@ -54,7 +52,7 @@ pub record Sees (v : View) (l : Line) : Type 0 where
   pub finish : v.finish ≡ in_millimetres (pos l.far)
 
 -- what the line's own first depth in a triangle is
-abbrev pub first_depth : Line → Point → Point → Point → Depth
+abbrev pub first_depth : Line → Point → Point → Point → Option Fraction
 first_depth l a b c =
     first_point (projected_of l a) (projected_of l b) (projected_of l c) (pos (l.near * gainOf l)) (pos (l.far * gainOf l))
 
@@ -73,6 +71,6 @@ pub record Shown (r : Ray) (v : View) : Type 0 where
   pub view_sized : ViewSized v
 
 -- a ray's line, where it is read on the grid
-abbrev pub Viewed : Ray → GridView → Type 0
-Viewed r (On v) = Shown r v
-Viewed r Off = grid_admitted r ≡ false
+abbrev pub Viewed : Ray → Option View → Type 0
+Viewed r (Some v) = Shown r v
+Viewed r None = grid_admitted r ≡ false

@@ -13,6 +13,7 @@ use wide_integers::number::Wide;
 use wide_integers::{guess, number};
 
 // The distance at which the line crosses a triangle, on the segment; or that it crosses it off the segment; or neither is decided.
+// Three outcomes with names of their own, which an `Option` of an `Option` would not give them.
 #[derive(Clone, Copy)]
 pub enum CrossingDistance {
     At(f64),

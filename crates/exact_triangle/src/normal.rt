@@ -7,7 +7,7 @@ ghost use Rattle.exact_triangle.specs.Normal.{cross_of, dot_of, normal_of};
 
 use crate::seen;
 use exact_depth::projection::Point;
-use vectors::vec3::{Normalized, Vec3};
+use vectors::vec3::Vec3;
 use wide_integers::number;
 use wide_integers::number::Wide;
 
@@ -44,7 +44,7 @@ pub fn dot(n: Point, p: Point) -> Wide
 }
 
 // The unit normal of a cross of edges: of a triangle with area it is told.
-pub fn unit_of(n: Point) -> Normalized
+pub fn unit_of(n: Point) -> Option<Vec3>
     ensures { result ≡ normal_of n }
 {
     let v = Vec3 {

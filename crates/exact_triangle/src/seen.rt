@@ -10,7 +10,7 @@ use crate::view;
 use crate::view::View;
 use exact_depth::incidence::Incidence;
 use exact_depth::projection::{Point, Projected};
-use exact_depth::wide_depth::Found;
+use exact_depth::wide_depth::WideDepth;
 use exact_depth::{depth, incidence};
 
 // What lies where p does, from the origin.
@@ -60,7 +60,7 @@ pub fn incidence_at(line: View, a: Point, b: Point, c: Point) -> Incidence
 }
 
 // The first depth of the line in the triangle.
-pub fn depth_of(line: View, a: Point, b: Point, c: Point) -> Found
+pub fn depth_of(line: View, a: Point, b: Point, c: Point) -> Option<WideDepth>
     requires { ViewSized line × (Near a × (Near b × Near c)) }
     ensures { Narrow result × ((l : Line) → Sees line l → answer_of result ≡ first_depth l a b c) }
 {

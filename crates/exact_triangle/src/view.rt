@@ -14,7 +14,7 @@ use geometry::ray::Ray;
 const UNIT: f64 = 0.000030517578125;
 
 // The axis that the depth is measured along.
-#[derive(Clone, Copy)]
+#[derive(Clone, Copy, Debug, PartialEq, Eq)]
 pub enum Axis {
     X,
     Y,
@@ -35,12 +35,6 @@ pub struct View {
     pub far: i64,
     pub start: f64,
     pub finish: f64,
-}
-
-#[derive(Clone, Copy)]
-pub enum GridView {
-    On(View),
-    Off,
 }
 
 // |x|.
@@ -86,27 +80,21 @@ pub fn facing(axis: Axis, p: Point) -> Projected
     ensures { result ≡ facing (main_as axis) p }
 {
     match axis {
-        Axis::X => {
-            return Projected {
-                across: p.y,
-                up: p.z,
-                depth: p.x,
-            };
-        }
-        Axis::Y => {
-            return Projected {
-                across: p.z,
-                up: p.x,
-                depth: p.y,
-            };
-        }
-        Axis::Z => {
-            return Projected {
-                across: p.x,
-                up: p.y,
-                depth: p.z,
-            };
-        }
+        Axis::X => Projected {
+            across: p.y,
+            up: p.z,
+            depth: p.x,
+        },
+        Axis::Y => Projected {
+            across: p.z,
+            up: p.x,
+            depth: p.y,
+        },
+        Axis::Z => Projected {
+            across: p.x,
+            up: p.y,
+            depth: p.z,
+        },
     }
 }
 
@@ -185,11 +173,11 @@ pub fn line_of(ray: Ray) -> View
 }
 
 // A ray on the grid, where it is read on it.
-pub fn view_of(ray: Ray) -> GridView
+pub fn view_of(ray: Ray) -> Option<View>
     ensures { Viewed ray result }
 {
     if !admitted(ray) {
-        return GridView::Off;
+        return None;
     }
-    GridView::On(line_of(ray))
+    Some(line_of(ray))
 }

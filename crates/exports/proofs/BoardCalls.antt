@@ -8,13 +8,17 @@ use borrow.Author.Tests.{le-leb, lt-leb}
 use lib.Dec.{leb}
 use lib.ListN.{length}
 use lib.Seq.{sets}
+use Rattle.std.specs.Prelude.{Result, Ok, Err}
 use Rattle.casts.specs.Answer.{bad_shape, no_room}
+use Rattle.casts.specs.declared.answer.Refusal.{Refusal}
+use Rattle.tree_build.specs.Build.{says as built}
+use Rattle.merge.specs.Merge.{says as merged}
 use Rattle.tree.specs.Layout.{word_at}
 use Rattle.merge.specs.Merge.{Answer, nodes, refused, Board, Areas, Outcome, shapes_admitted, tests_pass, merge_of}
 use Rattle.merge.specs.Promises.{Glued}
 use Rattle.merge.proofs.MergePasses.{merged_trees_pass}
 use Rattle.merge.proofs.MergeCasts.{merged_casts_glue}
-use Rattle.results.specs.Results.{Counted, done_code}
+use Rattle.results.specs.Results.{Counted, done_code, returned_nodes}
 use Rattle.exports.proofs.Codes.{refusals_below_codes}
 use Rattle.exports.specs.Boards.{returned_merged, MergeReturned, merge_refused, merge_returned}
 
@@ -22,6 +26,13 @@ use Rattle.exports.specs.Boards.{returned_merged, MergeReturned, merge_refused, 
 count_returned : (place : List ℕ) (count : ℕ) → 1 ≤ length place → word_at (sets place 0 (count ∷ [])) 0 ≡ count
 count_returned [] count there = absurd (omega arith)
 count_returned (x ∷ place) count there = refl
+
+-- a count that is told as the build's is told as the merge's
+pub merged_count : (counted : Result ℕ Refusal) (place : List ℕ) → returned_nodes (built counted) place
+    ≡ returned_merged (merged counted) place
+unfolding returned_nodes returned_merged
+merged_count (Ok count) place = refl
+merged_count (Err refusal) place = refl
 
 module _ (a b : Board) (old : Areas) (marks : ℕ) where
   module _ (place : List ℕ) where

@@ -14,10 +14,7 @@ use Rattle.vectors.specs.declared.vec3.Vec3.{Vec3}
 use Rattle.geometry.specs.declared.ray.Ray.{Ray}
 use Rattle.casts.specs.Answer.{no_room}
 use Rattle.cabinet.specs.declared.part.Part.{Part}
-use Rattle.cabinet.specs.declared.part.Found.TheVariants.{Nothing, Hit, Refused}
-use Rattle.cabinet.specs.declared.part.Progress.{Progress}
-use Rattle.cabinet.specs.declared.part.State.{State}
-use Rattle.cabinet.specs.declared.part.Look.{Look}
+use Rattle.cabinet.specs.Found.{Nothing, Hit, Refused, Progress, State, Look}
 use Rattle.cabinet.specs.Parts.{Areas}
 use Rattle.cabinet.specs.Looks.{look_from, look_parts, second_pass}
 use Rattle.cabinet.specs.Cabinet.{Answer, hit_in, none_after, refused, refused_after, cast_cabinet, tests_pass, with_results}

@@ -9,32 +9,42 @@ use lib.ListN.{length}
 use Rattle.casts.specs.Answer.{bad_shape, no_room}
 use Rattle.float_forms.specs.declared.forms.Form.{Form}
 use Rattle.record_bytes.specs.declared.shape.Plan.{Plan}
-use Rattle.record_bytes.specs.declared.shape.Planned.TheVariants.{Is, Malformed}
+use Rattle.std.specs.Prelude.{Some, None, Result, Ok, Err}
+use Rattle.casts.specs.declared.answer.Refusal.{Refusal}
+use Rattle.tree_build.specs.Build.{says as built}
+use Rattle.conversion.specs.Convert.{says as written_of}
 use Rattle.record_bytes.specs.Records.{well_formed}
 use Rattle.conversion.specs.Convert.{Answer, Outcome, converted}
 use Rattle.record_bytes.specs.Plans.{plan_of, planned}
-use Rattle.results.specs.Results.{Counted}
+use Rattle.results.specs.Results.{Counted, returned_nodes}
 use Rattle.exports.specs.Conversions.{returned_converted, without_place, ConvertReturned, convert_returned}
 
 -- ---- the place is missing
 
-pub place_room : (form : Form) (l : List ℕ) (plan : Plan) → planned form l ≡ Is plan → no_room ≡ without_place form l
+pub place_room : (form : Form) (l : List ℕ) (plan : Plan) → planned form l ≡ Some plan → no_room ≡ without_place form l
 unfolding planned without_place
 place_room form l plan e = go (well_formed form l) e
   where
-    go : (b : Bool) → cond b (Is (plan_of form l)) Malformed ≡ Is plan → no_room ≡ cond b no_room bad_shape
+    go : (b : Bool) → cond b (Some (plan_of form l)) None ≡ Some plan → no_room ≡ cond b no_room bad_shape
     go true e = refl
     go false e = absurd (let z : ◌≡◌ {A = ℕ} 0 1 = cc in omega arith)
 
-pub place_shape : (form : Form) (l : List ℕ) → planned form l ≡ Malformed → bad_shape ≡ without_place form l
+pub place_shape : (form : Form) (l : List ℕ) → planned form l ≡ None → bad_shape ≡ without_place form l
 unfolding planned without_place
 place_shape form l e = go (well_formed form l) e
   where
-    go : (b : Bool) → cond b (Is (plan_of form l)) Malformed ≡ Malformed → bad_shape ≡ cond b no_room bad_shape
+    go : (b : Bool) → cond b (Some (plan_of form l)) None ≡ None → bad_shape ≡ cond b no_room bad_shape
     go true e = absurd (let z : ◌≡◌ {A = ℕ} 0 1 = cc in omega arith)
     go false e = refl
 
 -- ---- the two calls
+
+-- a count that is told as the build's is told as the converter's
+pub converted_count : (counted : Result ℕ Refusal) (place : List ℕ) → returned_nodes (built counted) place
+    ≡ returned_converted (written_of counted) place
+unfolding returned_nodes returned_converted
+converted_count (Ok count) place = refl
+converted_count (Err refusal) place = refl
 
 returned_of : {a b : Counted} {c d : List ℕ} → a ≡ b → c ≡ d
     → ◌≡◌ {A = ConvertReturned} record { returned = a; area = c } record { returned = b; area = d }

@@ -1,4 +1,6 @@
 -- Every refusal of the exact cast, without a tree and through one, has a number below the codes. Assumes nothing.
+use Rattle.exact_depth.specs.declared.projection.Fraction.{Fraction}
+use Rattle.std.specs.Prelude.{Option, Some, None}
 use Prim.Native.Nat.{ℕ, zero, suc, ◌+◌}
 use mathlib.Core.Path.{refl}
 use mathlib.Core.Bool.{Bool, ◌&&◌, cond}
@@ -8,24 +10,19 @@ use lib.Ieee.{Float}
 use lib.ListN.{length}
 use Rattle.lists.specs.Lists.{range}
 use Rattle.vectors.specs.declared.vec3.Vec3.{Vec3}
-use Rattle.vectors.specs.declared.vec3.Normalized.{Normalized}
-use Rattle.vectors.specs.declared.vec3.Normalized.TheVariants.{Unit as UnitOf, Degenerate}
 use Rattle.vectors.specs.Vector.{dot_of}
 use Rattle.geometry.specs.Segment.{ray_admitted}
 use Rattle.geometry.specs.declared.ray.Ray.{Ray}
 use Rattle.casts.specs.Answer.{Answer, hit, none, refused, with_normal, no_normal, invalid_input, bad_shape, out_of_bounds, out_of_range}
 use Rattle.casts.specs.Reach.{reach_of}
 use Rattle.casts.specs.Surface.{facing}
-use Rattle.casts.specs.declared.answer.Reach.{Reach}
-use Rattle.casts.specs.declared.answer.Reach.TheVariants.{At, Miss, Refused}
+use Rattle.casts.specs.Reach.{Reach, At, Miss, Refused}
 use Rattle.nearest_hit.specs.Nearest.{no_hit, stopped}
 use Rattle.nearest_hit.specs.Summary.{Kept, nobody, kept, Found, found, lower, keep_of, Summary, nothing, note_of, winner_of, answer_at}
 use Rattle.tree.specs.Layout.{Tree, word_at, kind_at, first_at, second_at}
 use Rattle.tree.specs.Mesh.{Mesh, thirds, triangle_count, lengths_admitted, corners_inside, corners_of, triangles_fit}
 use Rattle.exact_triangle.specs.Grid.{grid_admitted, grid_line}
 use Rattle.exact_triangle.specs.Shear.{depth_of}
-use Rattle.exact_depth.specs.declared.projection.Depth.{Depth}
-use Rattle.exact_depth.specs.declared.projection.Depth.TheVariants.{At as Met, Miss as Unmet}
 use Rattle.exact_triangle.specs.Normal.{normal_of}
 use Rattle.exact_triangle.specs.Reach.{corners_read, reach_at, corners_reach, grid_reach}
 use Rattle.exact_triangle.specs.Cast.{grid_normal, reach_hit, cross_at, grid_triangle}
@@ -51,9 +48,9 @@ grid_reach_small r vs =
     (leaf reach_number (Refused out_of_range) refl))
     (leaf reach_number (Refused out_of_range) refl)
   where
-    deep : (d : Depth) → Small reach_number (reach_at d)
-    deep (Met f) = leaf reach_number (reach_at (Met f)) refl
-    deep Unmet = leaf reach_number Miss refl
+    deep : (d : Option Fraction) → Small reach_number (reach_at d)
+    deep (Some f) = leaf reach_number (reach_at (Some f)) refl
+    deep None = leaf reach_number Miss refl
 
 passed : (number : ℕ) → Small reach_number (Refused number) → Small answer_number (refused number)
 unfolding reach_number answer_number
@@ -63,10 +60,10 @@ grid_small : (r : Ray) (vs : List Vec3) → Small answer_number (grid_triangle r
 unfolding grid_triangle grid_normal
 grid_small r vs = go (grid_reach r vs) (grid_reach_small r vs)
   where
-    faced : (x : Float) (n : Normalized)
+    faced : (x : Float) (n : Option Vec3)
         → Small answer_number (with_normal n no_normal (λ (v : Vec3). hit (facing v (dot_of r.direction v)) x))
-    faced x (UnitOf v) = hits _ x
-    faced x Degenerate = refuses no_normal refl
+    faced x (Some v) = hits _ x
+    faced x None = refuses no_normal refl
 
     go : (q : Reach) → Small reach_number q → Small answer_number (reach_hit r (cross_at vs) q)
     go (At x) p = faced x (normal_of (cross_at vs))

@@ -1,4 +1,5 @@
 -- Every refusal of a definition that a call answers has a number below the codes: the casts at grids. Assumes nothing.
+use Rattle.std.specs.Prelude.{Option, Some, None}
 use Prim.Native.Nat.{ℕ, zero, suc, ◌+◌, ◌*◌, ◌/◌}
 use mathlib.Core.Path.{◌≡◌, refl}
 use mathlib.Core.Bool.{true, cond}
@@ -11,10 +12,6 @@ use Rattle.arithmetic.specs.Extremes.{minimum_of}
 use Rattle.vectors.specs.Vector.{finite_vec, try_normalize}
 use Rattle.vectors.specs.Numbers.{zeroᶠ, oneᶠ}
 use Rattle.vectors.specs.declared.vec3.Vec3.{Vec3}
-use Rattle.vectors.specs.declared.vec3.Checked.{Checked}
-use Rattle.vectors.specs.declared.vec3.Checked.TheVariants.{Value, Overflow}
-use Rattle.vectors.specs.declared.vec3.Normalized.{Normalized}
-use Rattle.vectors.specs.declared.vec3.Normalized.TheVariants.{Unit as UnitOf, Degenerate}
 use Rattle.geometry.specs.Box.{valid_box}
 use Rattle.geometry.specs.Segment.{ray_admitted}
 use Rattle.geometry.specs.declared.aabb.Aabb.{Aabb}
@@ -32,29 +29,19 @@ use Rattle.height_ranges.specs.Answer.{Answer as Clearance}
 use Rattle.height_ranges.specs.Ranges.{ranges_admitted, nodes_of, node_in_order, nearest_heights}
 use Rattle.height_ranges.specs.RangesCast.{answer_listed, visited_answer, ranges_cast, ray_height_ranges}
 use Rattle.distance_grid.specs.declared.grid.Grid.{Grid}
-use Rattle.distance_grid.specs.declared.places.Place.{Place}
-use Rattle.distance_grid.specs.declared.places.Place.TheVariants.{At as PlaceAt, Overflow as NoPlace}
-use Rattle.distance_grid.specs.declared.places.Located.{Located}
-use Rattle.distance_grid.specs.declared.places.Located.TheVariants.{At as LocatedAt, Refused as NotLocated}
+use Rattle.distance_grid.specs.Places.{Place, PlaceAt, NoPlace, Located, LocatedAt, NotLocated}
 use Rattle.distance_grid.specs.Grid.{grid_admitted, grid_box}
 use Rattle.distance_grid.specs.Places.{clamped_point, locate_axis, with_place, locate_inside, locate}
-use Rattle.distance_grid.specs.declared.sampling.Sampled.{Sampled}
-use Rattle.distance_grid.specs.declared.sampling.Sampled.TheVariants.{At as SampledAt, Refused as NotSampled}
+use Rattle.distance_grid.specs.Sampling.{Sampled, SampledAt, SampleRefused as NotSampled}
 use Rattle.distance_grid.specs.Sampling.{gathered, sample_faces, sample_cell, with_located, sample}
 use Rattle.distance_grid.specs.Valued.{value_of}
 use Rattle.grid_steps.specs.Slab.{ray_aabb_interval}
 use Rattle.grid_steps.specs.Cells.{ray_cell_indices, next_cell_boundary}
-use Rattle.grid_steps.specs.declared.interval.Interval.{Interval}
-use Rattle.grid_steps.specs.declared.interval.Interval.TheVariants.{Within, Miss}
-use Rattle.grid_steps.specs.declared.cells.Cells.{Cells}
-use Rattle.grid_steps.specs.declared.cells.Cells.TheVariants.{At as CellsAt, Overflow as NoCells}
-use Rattle.grid_steps.specs.declared.cells.Boundary.{Boundary}
-use Rattle.grid_steps.specs.declared.cells.Boundary.TheVariants.{At as BoundaryAt, Overflow as NoBoundary}
-use Rattle.cubic.specs.declared.roots.Root.{Root}
-use Rattle.cubic.specs.declared.roots.Root.TheVariants.{At as RootAt, None as NoRoot, Overflow as RootOverflow}
-use Rattle.cubic.specs.Roots.{first_cubic_root}
-use Rattle.level_set.specs.declared.hits.Samples.{Samples}
-use Rattle.level_set.specs.declared.hits.Samples.TheVariants.{All, Refused as NoSamples}
+use Rattle.grid_steps.specs.Slab.{Interval, Within, Miss}
+use Rattle.grid_steps.specs.Cells.{Cells, CellsAt, NoCells}
+use Rattle.std.specs.Prelude.{Option, Some as BoundaryAt, None as NoBoundary}
+use Rattle.cubic.specs.Roots.{Root, At as RootAt, None as NoRoot, Overflow as RootOverflow, first_cubic_root}
+use Rattle.level_set.specs.Hits.{Samples, All, SamplesRefused as NoSamples}
 use Rattle.level_set.specs.Hits.{point_at, along, with_sample, hit_with, hit_along, touch_at, value_along, third, two_thirds, samples_of}
 use Rattle.level_set.specs.Hits.{samples_along}
 use Rattle.level_set.specs.Walk.{CellResult, done, on, goes_on, root_result, cell_by, with_samples, cell_cast, goes_to, with_boundary}
@@ -168,13 +155,13 @@ located_small g p =
     (locate_axis q.y g.origin.y g.spacing.y g.sides.y) (locate_axis q.z g.origin.z g.spacing.z g.sides.z))
     (leaf located_number (NotLocated overflow) refl)
 
-gathered_small : (v x y z : Checked) → Small sampled_number (gathered v x y z)
+gathered_small : (v x y z : Option Float) → Small sampled_number (gathered v x y z)
 unfolding gathered sampled_number
-gathered_small Overflow x y z = leaf sampled_number (NotSampled overflow) refl
-gathered_small (Value v) Overflow y z = leaf sampled_number (NotSampled overflow) refl
-gathered_small (Value v) (Value x) Overflow z = leaf sampled_number (NotSampled overflow) refl
-gathered_small (Value v) (Value x) (Value y) Overflow = leaf sampled_number (NotSampled overflow) refl
-gathered_small (Value v) (Value x) (Value y) (Value z) =
+gathered_small None x y z = leaf sampled_number (NotSampled overflow) refl
+gathered_small (Some v) None y z = leaf sampled_number (NotSampled overflow) refl
+gathered_small (Some v) (Some x) None z = leaf sampled_number (NotSampled overflow) refl
+gathered_small (Some v) (Some x) (Some y) None = leaf sampled_number (NotSampled overflow) refl
+gathered_small (Some v) (Some x) (Some y) (Some z) =
     chosen (finite_vec (record { x = x; y = y; z = z }))
     (leaf sampled_number (SampledAt v (record { x = x; y = y; z = z })) refl) (leaf sampled_number (NotSampled overflow) refl)
 
@@ -214,9 +201,9 @@ hit_with_small : (gradient : Vec3) (distance : Float) → Small answer_number (h
 unfolding hit_with
 hit_with_small gradient distance = go (try_normalize gradient)
   where
-    go : (n : Normalized) → Small answer_number (with_normal n not_convergent (λ (normal : Vec3). hit normal distance))
-    go (UnitOf normal) = hits normal distance
-    go Degenerate = refuses not_convergent refl
+    go : (n : Option Vec3) → Small answer_number (with_normal n not_convergent (λ (normal : Vec3). hit normal distance))
+    go (Some normal) = hits normal distance
+    go None = refuses not_convergent refl
 
 module _ (r : Ray) (g : Grid) (values : List Float) where
   along_small : (distance : Float) → Small answer_number (hit_along r g values distance)
@@ -266,7 +253,7 @@ module _ (r : Ray) (g : Grid) (values : List Float) where
   step_small current exit =
       chosen (lt exit current) (ends none misses) (cells (ray_cell_indices g (point_at r current) r.direction))
     where
-      bounded : (b : Boundary) → Small result_number (with_boundary b (λ (next : Float). goes_to r g values current exit next))
+      bounded : (b : Option Float) → Small result_number (with_boundary b (λ (next : Float). goes_to r g values current exit next))
       bounded (BoundaryAt next) = goes_small current exit next
       bounded NoBoundary = ends (refused overflow) (refuses overflow refl)
 

@@ -1,5 +1,6 @@
 -- Every refusal of a definition that a call answers has a number below the codes: the casts at planes, triangles and meshes. Assumes
 -- nothing.
+use Rattle.std.specs.Prelude.{Option, Some, None}
 use Prim.Native.Nat.{ℕ, ◌<◌}
 use mathlib.Core.Path.{◌≡◌, refl, ap, subst, ◌∙◌}
 use mathlib.Core.Bool.{Bool, true, false, ◌&&◌, cond}
@@ -14,8 +15,6 @@ use Rattle.arithmetic.specs.Basic.{is_finite, absolute}
 use Rattle.vectors.specs.Numbers.{◌-ᶠ◌, ◌/ᶠ◌}
 use Rattle.vectors.specs.Vector.{finite_vec, checked_dot}
 use Rattle.vectors.specs.declared.vec3.Vec3.{Vec3}
-use Rattle.vectors.specs.declared.vec3.Checked.{Checked}
-use Rattle.vectors.specs.declared.vec3.Checked.TheVariants.{Value, Overflow}
 use Rattle.geometry.specs.Box.{corner, valid_box}
 use Rattle.geometry.specs.Segment.{ray_admitted, segment_end, segment_box}
 use Rattle.geometry.specs.declared.aabb.Aabb.{Aabb}
@@ -112,15 +111,15 @@ plane_small s r =
     (chosen (plane_admitted s) (cast (checked_dot r.direction s.normal) (checked_dot r.origin s.normal)) (refuses bad_shape refl))
     (refuses invalid_input refl)
   where
-    past : (x : Float) (c : Checked) → Small answer_number
+    past : (x : Float) (c : Option Float) → Small answer_number
         (with_value c (λ (height : Float). plane_at s r x ((s.distance -ᶠ height) /ᶠ x)))
-    past x (Value height) = at_small s r x _
-    past x Overflow = refuses overflow refl
+    past x (Some height) = at_small s r x _
+    past x None = refuses overflow refl
 
-    cast : (c e : Checked) → Small answer_number (with_value c (λ (x : Float). cond (le (absolute x) parallel) none
+    cast : (c e : Option Float) → Small answer_number (with_value c (λ (x : Float). cond (le (absolute x) parallel) none
         (with_value e (λ (height : Float). plane_at s r x ((s.distance -ᶠ height) /ᶠ x)))))
-    cast (Value x) e = chosen (le (absolute x) parallel) misses (past x e)
-    cast Overflow e = refuses overflow refl
+    cast (Some x) e = chosen (le (absolute x) parallel) misses (past x e)
+    cast None e = refuses overflow refl
 
 pub corners_small : (r : Ray) (vs : List Vec3) → Small answer_number (triangle_cast r vs)
 corners_small r vs = by_refusals _ (triangle_small r (corner vs 0) (corner vs 1) (corner vs 2)).below

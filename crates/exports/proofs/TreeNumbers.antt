@@ -31,9 +31,7 @@ use Rattle.conversion.specs.Writing.{rewritten}
 use Rattle.conversion.specs.Convert.{said_representable, Answer as Converted, written, refused as notConverted, Outcome, converted}
 use Rattle.tree_walk.specs.Looking.{Looked, looked, used_up, walk_within}
 use Rattle.cabinet.specs.declared.part.Part.{Part}
-use Rattle.cabinet.specs.declared.part.Found.{Found}
-use Rattle.cabinet.specs.declared.part.Found.TheVariants.{Nothing, Hit, Refused as NotFound}
-use Rattle.cabinet.specs.declared.part.Progress.{Progress}
+use Rattle.cabinet.specs.Found.{Found, Nothing, Hit, Refused as NotFound, Progress}
 use Rattle.cabinet.specs.Parts.{Areas as CabinetAreas, mesh_of, tree_of_part, shape_fits, room_fits}
 use Rattle.cabinet.specs.PartCast.{Costed, costing, after_look, cast_within, moved_ray, cast_moved}
 use Rattle.cabinet.specs.Cabinet.{found_next, is_refused, after_part, beginning, cast_part, cast_parts, answer_with, all_parts}

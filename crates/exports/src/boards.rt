@@ -5,25 +5,9 @@ ghost use Rattle.merge.specs.Promises.{Glued};
 ghost use Rattle.results.specs.Results.{done_code};
 ghost use Rattle.exports.specs.Boards.{returned_merged, merge_returned};
 
-use casts::answer;
-use merge::merged::Merged;
+use casts::answer::Refusal;
+use merge::board::Board;
 use merge::{merging, testing};
-
-// The merge's answer as its number, the node count written.
-fn put_merged(merged: Merged, nodes: &mut [usize]) -> u32
-    requires { 1 ≤ length nodes.old }
-    ensures { record { number = result; count = nodes.new } ≡ returned_merged (says merged) nodes.old }
-{
-    match merged {
-        Merged::Nodes(count) => {
-            nodes[0] = count;
-            return results::DONE;
-        }
-        Merged::Refused(number) => {
-            return number;
-        }
-    }
-}
 
 // Glues two boards, each a mesh with its tree, into one and writes its node count. The marks are a work area: unchanged after refusals 2
 // and 3.
@@ -86,26 +70,32 @@ pub fn probe_merge(
         second_vertices.len(),
         second_triangles.len(),
     ) {
-        return answer::BAD_SHAPE;
+        return Refusal::BadShape.into();
     }
     if nodes.len() < 1 {
-        return answer::NO_ROOM;
+        return Refusal::NoRoom.into();
     }
+    let first = Board {
+        vertices: first_vertices,
+        triangles: first_triangles,
+        nodes: first_nodes,
+        node_boxes: first_node_boxes,
+        triangle_boxes: first_triangle_boxes,
+        node_words: first_node_words,
+        order: first_order,
+    };
+    let second = Board {
+        vertices: second_vertices,
+        triangles: second_triangles,
+        nodes: second_nodes,
+        node_boxes: second_node_boxes,
+        triangle_boxes: second_triangle_boxes,
+        node_words: second_node_words,
+        order: second_order,
+    };
     let merged = merging::merge(
-        first_vertices,
-        first_triangles,
-        first_nodes,
-        first_node_boxes,
-        first_triangle_boxes,
-        first_node_words,
-        first_order,
-        second_vertices,
-        second_triangles,
-        second_nodes,
-        second_node_boxes,
-        second_triangle_boxes,
-        second_node_words,
-        second_order,
+        first,
+        second,
         vertices,
         triangles,
         node_boxes,
@@ -114,5 +104,5 @@ pub fn probe_merge(
         order,
         marks,
     );
-    put_merged(merged, nodes)
+    results::put_count(merged, nodes)
 }

@@ -1,13 +1,14 @@
 ghost use Rattle.std.specs.Prelude.{◌≡◌, length};
 ghost use Rattle.cabinet.specs.Cabinet.{with_results};
+ghost use Rattle.cabinet.specs.Found.{says_progress, says_state};
 ghost use Rattle.cabinet.specs.Steps.{areas, begun, last_answer};
 ghost use Rattle.results.specs.Results.{ray_from};
 ghost use Rattle.exports.specs.CabinetResults.{cabinet_fits, cabinet_returned, returned_cabinet, CabinetCall};
 
 use cabinet::look;
-use cabinet::part::{Found, Part, State};
+use cabinet::part::{Part, State};
 use cabinet_passes::pass;
-use casts::answer;
+use casts::answer::Refusal;
 use geometry::ray::Ray;
 use vectors::vec3::Vec3;
 
@@ -43,7 +44,7 @@ fn begin(
     part: usize,
     spent: usize,
 ) -> State
-    ensures { result ≡ begun (ray_from origin_x origin_y origin_z direction_x direction_y direction_z max_distance
+    ensures { says_state result ≡ begun (ray_from origin_x origin_y origin_z direction_x direction_y direction_z max_distance
         near_distance) limit (cabinet_fits hit index part spent) }
 {
     let ray = Ray {
@@ -57,7 +58,7 @@ fn begin(
             y: direction_y,
             z: direction_z,
         },
-        max_distance: max_distance,
+        max_distance,
         near: near_distance,
     };
     let fits = results_fit(hit, index, part, spent);
@@ -74,44 +75,40 @@ fn put_cabinet(
 ) -> u32
     ensures { cabinet_returned result hit.new index.new part.new spent.new
         ≡ returned_cabinet (with_results (cabinet_fits (length hit.old) (length index.old) (length part.old)
-        (length spent.old)) (last_answer end.at)) hit.old index.old part.old
+        (length spent.old)) (last_answer (says_progress end.at))) hit.old index.old part.old
         spent.old }
 {
     let at = end.at;
-    let found = at.found;
     let fits = results_fit(hit.len(), index.len(), part.len(), spent.len());
-    match found {
-        Found::Nothing => {
-            if !fits {
-                return answer::NO_ROOM;
+    match at.found {
+        Ok(nearest) => match nearest {
+            None => {
+                if !fits {
+                    return Refusal::NoRoom.into();
+                }
+                spent[0] = at.spent;
+                return results::NONE;
             }
-            spent[0] = at.spent;
-            return results::NONE;
-        }
-        Found::Hit {
-            part: which,
-            index: triangle,
-            normal,
-            distance,
-        } => {
-            if !fits {
-                return answer::NO_ROOM;
+            Some(found) => {
+                if !fits {
+                    return Refusal::NoRoom.into();
+                }
+                results::put_hit(hit, found.hit.normal, found.hit.distance);
+                index[0] = found.hit.index;
+                part[0] = found.part;
+                spent[0] = at.spent;
+                return results::HIT;
             }
-            results::put_hit(hit, normal, distance);
-            index[0] = triangle;
-            part[0] = which;
-            spent[0] = at.spent;
-            return results::HIT;
-        }
-        Found::Refused(number) => {
+        },
+        Err(refusal) => {
             if at.part == 0 {
-                return number;
+                return refusal.into();
             }
             if !fits {
-                return answer::NO_ROOM;
+                return Refusal::NoRoom.into();
             }
             spent[0] = at.spent;
-            return number;
+            return refusal.into();
         }
     }
 }

@@ -1,3 +1,4 @@
+ghost use Rattle.casts.specs.Answer.{number_of};
 ghost use Rattle.std.specs.Prelude.{◌≡◌};
 ghost use Rattle.tree.specs.Mesh.{mesh};
 ghost use Rattle.tree.specs.Layout.{tree_of};
@@ -5,7 +6,7 @@ ghost use Rattle.results.specs.Results.{ray_from};
 ghost use Rattle.many_drills.specs.Many.{places, returned_many};
 ghost use Rattle.exports.specs.Drills.{short_drill, DrillPlainCall, DrillCall, DrillManyCall};
 
-use casts::answer;
+use casts::answer::Refusal;
 use exact_triangle::view;
 use geometry::ray::Ray;
 use many_drills::{at_mesh, single};
@@ -15,25 +16,25 @@ use tree::mesh as triangle_mesh;
 use vectors::vec3::Vec3;
 
 // The number where the index slice is too short: 1 and 12 of the ray and the radius and 2, whose test is handed over, go before 3.
-fn short_drill(ray: Ray, radius: f64, shape: bool) -> u32
-    ensures { result ≡ short_drill ray radius shape }
+fn short_drill(ray: Ray, radius: f64, shape: bool) -> Refusal
+    ensures { number_of result ≡ short_drill ray radius shape }
 {
     if !ray.validate() {
-        return answer::INVALID_INPUT;
+        return Refusal::InvalidInput;
     }
     if !cylinder::radius_admitted(radius) {
-        return answer::INVALID_INPUT;
+        return Refusal::InvalidInput;
     }
     if !view::admitted(ray) {
-        return answer::OUT_OF_RANGE;
+        return Refusal::OutOfRange;
     }
     if !cylinder::radius_read(radius) {
-        return answer::OUT_OF_RANGE;
+        return Refusal::OutOfRange;
     }
     if !shape {
-        return answer::BAD_SHAPE;
+        return Refusal::BadShape;
     }
-    answer::NO_ROOM
+    Refusal::NoRoom
 }
 
 // The drill about a ray's segment at a mesh, without a tree and without a work area: whether it touches a triangle, with area or without,
@@ -70,7 +71,7 @@ pub fn probe_drill_plain(
             y: direction_y,
             z: direction_z,
         },
-        max_distance: max_distance,
+        max_distance,
         near: near_distance,
     };
     if index.len() < 1 {
@@ -78,7 +79,8 @@ pub fn probe_drill_plain(
             ray,
             radius,
             triangle_mesh::lengths_admitted(vertices.len(), triangles.len()),
-        );
+        )
+        .into();
     }
     let found = plain::drill_plain(ray, radius, vertices, triangles);
     single::put_drill(found, index)
@@ -128,7 +130,7 @@ pub fn probe_drill(
             y: direction_y,
             z: direction_z,
         },
-        max_distance: max_distance,
+        max_distance,
         near: near_distance,
     };
     if index.len() < 1 {
@@ -136,7 +138,8 @@ pub fn probe_drill(
             ray,
             radius,
             mesh_cast::shape_admitted(vertices.len(), triangles.len(), vertices.len(), nodes),
-        );
+        )
+        .into();
     }
     let found = through::drill_through(
         ray,

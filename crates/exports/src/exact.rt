@@ -1,3 +1,4 @@
+ghost use Rattle.casts.specs.Answer.{number_of};
 ghost use Rattle.std.specs.Prelude.{◌≡◌};
 ghost use Rattle.tree.specs.Mesh.{mesh};
 ghost use Rattle.tree.specs.Layout.{tree_of};
@@ -6,7 +7,7 @@ ghost use Rattle.results.specs.Results.{ray_from};
 ghost use Rattle.exports.specs.ExactResults.{short_exact, ExactPlainCall, NumbersCall};
 ghost use Rattle.exports.specs.Calls.{ExactCall, ExactListingCall, listed_returned};
 
-use casts::answer;
+use casts::answer::Refusal;
 use exact_hits::listing;
 use exact_triangle::view;
 use geometry::ray::Ray;
@@ -17,19 +18,19 @@ use tree_exact::{cast as tree_cast, numbers};
 use vectors::vec3::Vec3;
 
 // The number where a result slice is too short: 1, 12 of the ray and 2, whose test is handed over, go before 3.
-fn short_exact(ray: Ray, shape: bool) -> u32
-    ensures { result ≡ short_exact ray shape }
+fn short_exact(ray: Ray, shape: bool) -> Refusal
+    ensures { number_of result ≡ short_exact ray shape }
 {
     if !ray.validate() {
-        return answer::INVALID_INPUT;
+        return Refusal::InvalidInput;
     }
     if !view::admitted(ray) {
-        return answer::OUT_OF_RANGE;
+        return Refusal::OutOfRange;
     }
     if !shape {
-        return answer::BAD_SHAPE;
+        return Refusal::BadShape;
     }
-    answer::NO_ROOM
+    Refusal::NoRoom
 }
 
 // The exact cast at a mesh, without a tree and without a work area: the first point of the segment in a triangle, on a grid of 2^-15 mm.
@@ -64,20 +65,22 @@ pub fn probe_ray_mesh_exact_plain(
             y: direction_y,
             z: direction_z,
         },
-        max_distance: max_distance,
+        max_distance,
         near: near_distance,
     };
     if hit.len() < 4 {
         return short_exact(
             ray,
             triangle_mesh::lengths_admitted(vertices.len(), triangles.len()),
-        );
+        )
+        .into();
     }
     if index.len() < 1 {
         return short_exact(
             ray,
             triangle_mesh::lengths_admitted(vertices.len(), triangles.len()),
-        );
+        )
+        .into();
     }
     let found = cast::ray_mesh_exact_plain(ray, vertices, triangles);
     results::put_indexed(found, hit, index)
@@ -127,20 +130,22 @@ pub fn probe_ray_mesh_exact(
             y: direction_y,
             z: direction_z,
         },
-        max_distance: max_distance,
+        max_distance,
         near: near_distance,
     };
     if hit.len() < 4 {
         return short_exact(
             ray,
             mesh_cast::shape_admitted(vertices.len(), triangles.len(), pose.len(), nodes),
-        );
+        )
+        .into();
     }
     if index.len() < 1 {
         return short_exact(
             ray,
             mesh_cast::shape_admitted(vertices.len(), triangles.len(), pose.len(), nodes),
-        );
+        )
+        .into();
     }
     let found = tree_cast::ray_mesh_exact(
         ray,
@@ -203,14 +208,15 @@ pub fn probe_ray_mesh_exact_all(
             y: direction_y,
             z: direction_z,
         },
-        max_distance: max_distance,
+        max_distance,
         near: near_distance,
     };
     if found.len() < 1 {
         return short_exact(
             ray,
             mesh_cast::shape_admitted(vertices.len(), triangles.len(), pose.len(), nodes),
-        );
+        )
+        .into();
     }
     let listed = listing::ray_mesh_exact_all(
         ray,
@@ -227,7 +233,7 @@ pub fn probe_ray_mesh_exact_all(
         indices,
         numbers,
     );
-    results::put_found(listed, found)
+    results::put_count(listed, found)
 }
 
 // Whether every corner of every triangle is three numbers: 'yes' or 'no', as the tree check tells it. A mesh is asked once.

@@ -55,7 +55,7 @@ pub fn probe_ray_mesh_all(
             y: direction_y,
             z: direction_z,
         },
-        max_distance: max_distance,
+        max_distance,
         near: near_distance,
     };
     if found.len() < 1 {
@@ -76,5 +76,5 @@ pub fn probe_ray_mesh_all(
         indices,
         numbers,
     );
-    results::put_found(listed, found)
+    results::put_count(listed, found)
 }

@@ -1,3 +1,4 @@
+ghost use Rattle.casts.specs.Answer.{number_of};
 ghost use Rattle.std.specs.Prelude.{◌≡◌, length};
 ghost use Rattle.geometry.specs.Box.{valid_box};
 ghost use Rattle.tree.specs.Mesh.{mesh};
@@ -6,7 +7,7 @@ ghost use Rattle.tree_query.specs.Query.{counts_admitted};
 ghost use Rattle.results.specs.Results.{ray_from, ray_of, box_of, short_of};
 ghost use Rattle.exports.specs.Calls.{MeshCall, BuildCall, QueryCall, CheckCall, built_returned};
 
-use casts::answer;
+use casts::answer::Refusal;
 use geometry::aabb::Aabb;
 use mesh::cast;
 use results::short;
@@ -223,20 +224,20 @@ pub fn probe_build(
         order,
         work,
     );
-    results::put_nodes(built, nodes)
+    results::put_count(built, nodes)
 }
 
 // The query's number where the place of the list's length is not there: 1 and 2 go before 3.
-fn short_query(bounds: Aabb, triangles: usize, nodes: usize) -> u32
-    ensures { result ≡ short_of (valid_box bounds) (counts_admitted triangles nodes) }
+fn short_query(bounds: Aabb, triangles: usize, nodes: usize) -> Refusal
+    ensures { number_of result ≡ short_of (valid_box bounds) (counts_admitted triangles nodes) }
 {
     if !bounds.is_valid() {
-        return answer::INVALID_INPUT;
+        return Refusal::InvalidInput;
     }
     if !query::counts_admitted(triangles, nodes) {
-        return answer::BAD_SHAPE;
+        return Refusal::BadShape;
     }
-    answer::NO_ROOM
+    Refusal::NoRoom
 }
 
 // Lists the triangles of a tree whose boxes touch a box, ascending, and writes how many.
@@ -277,7 +278,7 @@ pub fn probe_query(
         },
     };
     if found.len() < 1 {
-        return short_query(bounds, triangles, nodes);
+        return short_query(bounds, triangles, nodes).into();
     }
     let listed = query::query(
         bounds,
@@ -290,7 +291,7 @@ pub fn probe_query(
         list,
         stack,
     );
-    results::put_found(listed, found)
+    results::put_count(listed, found)
 }
 
 // Whether a tree, from whatever builder, fits the mesh. The marks are a work area, unchanged after a refusal.

@@ -53,7 +53,7 @@ pub fn answer_plane(
             y: normal_y,
             z: normal_z,
         },
-        distance: distance,
+        distance,
     };
     results::put_answer(plane::ray_plane(plane, ray), hit)
 }
@@ -229,10 +229,10 @@ pub fn answer_height_field(
         near_distance,
     );
     let field = Field {
-        rows: rows,
-        columns: columns,
-        spacing_x: spacing_x,
-        spacing_y: spacing_y,
+        rows,
+        columns,
+        spacing_x,
+        spacing_y,
     };
     results::put_answer(cast::ray_height_field(ray, field, heights), hit)
 }

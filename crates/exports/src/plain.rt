@@ -3,7 +3,7 @@ ghost use Rattle.tree.specs.Mesh.{mesh};
 ghost use Rattle.results.specs.Results.{ray_from};
 ghost use Rattle.exports.specs.Plain.{plain_returned, ReturnedByTrees};
 
-use casts::answer;
+use casts::answer::Refusal;
 use mesh_plain::cast;
 use tree::mesh as triangle_mesh;
 
@@ -41,16 +41,16 @@ pub fn probe_ray_mesh_plain(
         near_distance,
     );
     if !ray.validate() {
-        return answer::INVALID_INPUT;
+        return Refusal::InvalidInput.into();
     }
     if !triangle_mesh::lengths_admitted(vertices.len(), triangles.len()) {
-        return answer::BAD_SHAPE;
+        return Refusal::BadShape.into();
     }
     if hit.len() < 4 {
-        return answer::NO_ROOM;
+        return Refusal::NoRoom.into();
     }
     if index.len() < 1 {
-        return answer::NO_ROOM;
+        return Refusal::NoRoom.into();
     }
     let found = cast::plain_cast(ray, vertices, triangles);
     results::put_indexed(found, hit, index)

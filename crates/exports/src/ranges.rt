@@ -4,7 +4,7 @@ ghost use Rattle.height_ranges.specs.RangesCast.{ray_height_ranges};
 ghost use Rattle.results.specs.Results.{ray_from, field_of};
 ghost use Rattle.exports.specs.Ranges.{short_number, answered_cell, KeepsPromise};
 
-use casts::answer as refusals;
+use casts::answer::Refusal;
 use height_field::field::Field;
 use height_ranges::answer::Clearance;
 use height_ranges::cast;
@@ -15,26 +15,24 @@ pub const CLEAR: u32 = 261;
 pub const POSSIBLE: u32 = 262;
 
 // The number where the cell has no place: 3, but 1 and 2 are found before.
+#[tactic(auto, unfolding(crate::specs::Ranges::short_number))]
 fn short_number(answer: Clearance) -> u32
     ensures { result ≡ short_number (says answer) }
 {
     match answer {
-        Clearance::Clear => {
-            return refusals::NO_ROOM;
-        }
-        Clearance::Possible(first) => {
-            return refusals::NO_ROOM;
-        }
-        Clearance::Refused(number) => {
-            if number <= refusals::BAD_SHAPE {
+        Ok(_) => Refusal::NoRoom.into(),
+        Err(refusal) => {
+            let number = u32::from(refusal);
+            if number <= u32::from(Refusal::BadShape) {
                 return number;
             }
-            return refusals::NO_ROOM;
+            Refusal::NoRoom.into()
         }
     }
 }
 
 // The answer as its number, the cell written where one may be touched.
+#[tactic(auto, unfolding(crate::specs::Ranges::answered_cell, crate::specs::Ranges::returned_cell))]
 fn put_cell(answer: Clearance, cell: &mut [u32]) -> u32
     ensures { record { number = result; cell = cell.new } ≡ answered_cell (says answer) cell.old }
 {
@@ -42,16 +40,12 @@ fn put_cell(answer: Clearance, cell: &mut [u32]) -> u32
         return short_number(answer);
     }
     match answer {
-        Clearance::Clear => {
-            return CLEAR;
-        }
-        Clearance::Possible(first) => {
+        Ok(None) => CLEAR,
+        Ok(Some(first)) => {
             cell[0] = first;
-            return POSSIBLE;
+            POSSIBLE
         }
-        Clearance::Refused(number) => {
-            return number;
-        }
+        Err(refusal) => refusal.into(),
     }
 }
 
@@ -92,10 +86,10 @@ pub fn probe_ray_height_ranges(
         near_distance,
     );
     let field = Field {
-        rows: rows,
-        columns: columns,
-        spacing_x: spacing_x,
-        spacing_y: spacing_y,
+        rows,
+        columns,
+        spacing_x,
+        spacing_y,
     };
     put_cell(cast::ray_height_ranges(ray, field, lows, highs), cell)
 }

@@ -9,13 +9,12 @@ use lib.ListN.{get_or, drop}
 use lib.Seq.{get_or-drop, drop-drop, sets}
 use Rattle.lists.proofs.Runs.{sets_append}
 use Rattle.arithmetic.proofs.RootCases.{zero_over_zero}
-use Rattle.float_forms.specs.declared.forms.Form.{Form}
 use Rattle.float_forms.specs.declared.forms.Form.TheVariants.{First, Long, Short}
-use Rattle.float_forms.specs.Forms.{size_of}
 use Rattle.float_forms.specs.Words.{byte_at, value_at}
 use Rattle.float_forms.specs.Bytes.{word_of, word_bytes, pattern_of, pattern_bytes, number_of}
 use Rattle.float_forms.proofs.Numbers.{word_length}
-use Rattle.float_forms.proofs.Patterns.{nan_pattern}
+use Rattle.float_forms.proofs.Patterns.{nan_pattern, number_pattern}
+use Rattle.float_forms.proofs.WordLaws.{bits_there, never_nothing}
 
 pub word_at_place : (l : List ℕ) (p : ℕ)
     → word_of (drop p l) ≡ ((get_or l p 0 * 256 + get_or l (p + 1) 0) * 256 + get_or l (p + 2) 0) * 256 + get_or l (p + 3) 0
@@ -43,18 +42,14 @@ pub nan_read : (l : List ℕ) (p bits : ℕ) → bits ≡ value_at l p → 0x7ff
     → div binary64 (of_bits binary64 0) (of_bits binary64 0) ≡ number_of Long (drop p l)
 nan_read l p bits e h = zero_over_zero ∙ (sym (nan_pattern binary64 bits h) ∙ long_read l p bits e)
 
--- a float that has not 4 bytes is read, and written, as one of 8
-pub long_number : (form : Form) (l : List ℕ) → (size_of form ≡ 4 → ⊥) → number_of Long l ≡ number_of form l
+-- a float of version 1 is read, and written, as one of version 2
+pub first_number : (l : List ℕ) → number_of Long l ≡ number_of First l
 unfolding number_of pattern_of
-long_number First l n = refl
-long_number Long l n = refl
-long_number Short l n = absurd (n refl)
+first_number l = refl
 
-pub long_bytes : (form : Form) (bits : ℕ) → (size_of form ≡ 4 → ⊥) → pattern_bytes Long bits ≡ pattern_bytes form bits
+pub first_bytes : (bits : ℕ) → pattern_bytes Long bits ≡ pattern_bytes First bits
 unfolding pattern_bytes
-long_bytes First bits n = refl
-long_bytes Long bits n = refl
-long_bytes Short bits n = absurd (n refl)
+first_bytes bits = refl
 
 -- ---- writing
 
@@ -69,3 +64,7 @@ put_long l after last p n e f =
 pub put_short : (l last : List ℕ) (p n : ℕ) → last ≡ sets l p (word_bytes n) → last ≡ sets l p (pattern_bytes Short n)
 unfolding pattern_bytes
 put_short l last p n e = e
+
+-- ---- for `float_forms::bytes::long_at`
+
+pub ruleset long_reads = (bits_there, never_nothing, number_pattern, long_read, nan_read)

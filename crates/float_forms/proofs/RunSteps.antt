@@ -2,24 +2,41 @@
 use Prim.Native.Nat.{ℕ, zero, suc, ◌+◌, ◌-◌, ◌*◌, ◌<◌, ◌≤◌}
 use mathlib.Core.Path.{◌≡◌, refl, sym, ap, ◌∙◌}
 use mathlib.Core.Bool.{Bool, true, false}
-use mathlib.Core.List.{List, [], ◌∷◌, ◌++◌}
-use native.Mathlib.Nat.{mul-suc}
+use mathlib.Core.List.{List, [], ◌∷◌, ◌++◌, append_assoc}
+use native.Mathlib.Nat.{mul-zero, mul-suc}
 use native.Mathlib.Omega.{arith}
 use native.Mathlib.Numerals.{add-one}
 use lib.Ieee.{to_bits}
-use lib.ListN.{length, set, drop, length-set}
-use lib.Seq.{drop-drop, sets, length-sets}
+use lib.ListN.{length, set, take, drop, length-set, length-drop}
+use lib.Seq.{drop-drop, sets, length-sets, sets-eq, length-take-le}
 use Rattle.lists.proofs.JoinedTests.{and_first, and_second}
 use Rattle.lists.proofs.Runs.{sets_append}
 use Rattle.float_forms.specs.declared.forms.Form.{Form}
 use Rattle.float_forms.specs.Forms.{size_of, format_of}
-use Rattle.float_forms.specs.Bytes.{word_of, word_bytes, pattern_bytes, number_of, number_bytes, numbers_of, numbers_bytes, words_of}
+use Rattle.float_forms.specs.Bytes.{word_of, pattern_bytes, number_of, number_bytes, numbers_of, numbers_bytes, words_of}
 use Rattle.float_forms.specs.Bytes.{words_bytes}
 use Rattle.float_forms.specs.Representable.{every, fits_in, representable}
-use Rattle.float_forms.proofs.Numbers.{word_length, number_length}
+use borrow.Rule.Slice.PartMut.{put_mid}
+use Rattle.float_forms.specs.Bytes.{IsBytes}
+use Rattle.float_forms.proofs.Numbers.{drop_bytes, number_length}
+use Rattle.float_forms.proofs.RunLaws.{words_bytes_lem}
 
 less_one : (k : ℕ) → suc k - 1 ≡ k
 less_one k = omega arith
+
+-- ---- the next place
+
+pub first_place : (place size : ℕ) → place + size * 0 ≡ place
+first_place place size = omega (arith, mul-zero size)
+
+pub next_place : (place size i : ℕ) → place + size * (i + 1) ≡ place + size * i + size
+next_place place size i = rw add-one (omega (arith, mul-suc size i))
+
+pub all_left : (count : ℕ) → count - 0 ≡ count
+all_left count = omega arith
+
+pub one_less : (count i : ℕ) → count - (i + 1) ≡ count - i - 1
+one_less count i = omega arith
 
 -- ---- reading a run to the front of an area
 
@@ -156,35 +173,18 @@ module _ (p q : Form) (l whole : List ℕ) (size : ℕ) where
   write_done out from to zero g s = s.same
   write_done out from to (suc k) g s = absurd (omega (arith, g))
 
--- ---- writing u32
+-- ---- copying u32
 
-pub record Copying (l whole : List ℕ) (size : ℕ) (out : List ℕ) (from to left : ℕ) : Type 0 where
-  pub enough : from + 4 * left ≤ length l
-  pub room : to + 4 * left ≤ length out
-  pub kept : length out ≡ size
-  pub same : sets out to (words_bytes (words_of left (drop from l))) ≡ whole
-
-module _ (l whole : List ℕ) (size : ℕ) where
-  pub copy_next : (out after : List ℕ) (from to left word : ℕ) → 0 < left → Copying l whole size out from to left
-      → word ≡ word_of (drop from l) → after ≡ sets out to (word_bytes word) → Copying l whole size after (from + 4) (to + 4) (left - 1)
-  unfolding words_of words_bytes
-  copy_next out after from to zero word g s e f = absurd (omega (arith, g))
-  copy_next out after from to (suc k) word g s e f =
-      let w = word_of (drop from l) in
-      let rest = words_of k (drop (from + 4) l) in
-      let long : length after ≡ length out = rw f (length-sets out to (word_bytes word)) in
-      let here : drop 4 (drop from l) ≡ drop (from + 4) l = drop-drop 4 from l in
-      let put : after ≡ sets out to (word_bytes w) = rw e at f in
-      let all : sets out to (word_bytes w ++ words_bytes rest) ≡ whole = rw here at s.same in
-      let step : to + 4 ≡ to + length (word_bytes w) = ap (λ (n : ℕ). to + n) (sym (word_length w)) in
-      rw (less_one k) record {
-        enough = omega (arith, s.enough);
-        room = rw long (omega (arith, s.room));
-        kept = long ∙ s.kept;
-        same = rw (put, step) (sym (sets_append out to (word_bytes w) (words_bytes rest)) ∙ all);
-      }
-
-  pub copy_done : (out : List ℕ) (from to left : ℕ) → left ≤ 0 → Copying l whole size out from to left → out ≡ whole
-  unfolding words_of words_bytes
-  copy_done out from to zero g s = s.same
-  copy_done out from to (suc k) g s = absurd (omega (arith, g))
+-- u32 read and written again are the bytes that they were read from
+pub words_copied : (l out part : List ℕ) (place at count : ℕ) → IsBytes l → place + 4 * count ≤ length l → at + 4 * count ≤ length out
+    → part ≡ take (place + 4 * count - place) (drop place l)
+    → put_mid at (at + 4 * count - at) out part ≡ sets out at (words_bytes (words_of count (drop place l)))
+words_copied l out part place at count b enough room e =
+    let many : place + 4 * count - place ≡ 4 * count = omega arith in
+    let long : at + 4 * count - at ≡ 4 * count = omega arith in
+    let left : 4 * count ≤ length (drop place l) = omega (arith, length-drop place l) in
+    let same : words_bytes (words_of count (drop place l)) ≡ take (4 * count) (drop place l) =
+    words_bytes_lem count (drop place l) (drop_bytes place l b) left in
+    let size : length (take (4 * count) (drop place l)) ≡ 4 * count = length-take-le (4 * count) (drop place l) left in
+    let whole = sets-eq (take (4 * count) (drop place l)) out at (omega (arith, size)) in
+    rw (same, e, many, long, whole, size, drop-drop (4 * count) at out, append_assoc)

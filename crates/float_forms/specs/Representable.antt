@@ -1,9 +1,7 @@
 -- Which floats a form represents exactly, and their patterns. Definitions only. Assumes nothing.
-use Rattle.std.specs.Prelude.{Bool, true, not, ◌&&◌, cond, List, [], ◌∷◌, Float}
+use Rattle.std.specs.Prelude.{ℕ, Bool, true, not, ◌&&◌, cond, List, [], ◌∷◌, Float, Option, Some, None}
 use Rattle.std.specs.Float.Ieee.{is_nan, fits, to_bits}
 use Rattle.float_forms.specs.declared.forms.Form.{Form}
-use Rattle.float_forms.specs.declared.representable.Pattern.{Pattern}
-use Rattle.float_forms.specs.declared.representable.Pattern.TheVariants.{Bits, Unrepresentable}
 use Rattle.float_forms.specs.Forms.{format_of}
 
 -- each of some floats passes a test
@@ -23,5 +21,6 @@ fits_in form x = fits (format_of form) x
 unfoldable pub representable : Form → Float → Bool
 representable form x = not (is_nan x) && fits (format_of form) x
 
-unfoldable pub pattern_for : Form → Float → Pattern
-pattern_for form x = cond (representable form x) (Bits (to_bits (format_of form) x)) Unrepresentable
+-- the pattern that stands for a float exactly, if the form has one
+unfoldable pub pattern_for : Form → Float → Option ℕ
+pattern_for form x = cond (representable form x) (Some (to_bits (format_of form) x)) None

@@ -1,12 +1,10 @@
 -- The pattern of 4 bytes for a float that is none that "f32 does not hold exactly or that is NaN" (document 02, M-113). Definitions only.
 -- Assumes nothing.
-use Rattle.std.specs.Prelude.{ℕ, ◌+◌, ◌-◌, ◌*◌, ◌/◌, ◌%◌, ◌^◌, cond, leb, ltb, eqb, Float}
+use Rattle.std.specs.Prelude.{ℕ, ◌+◌, ◌-◌, ◌*◌, ◌/◌, ◌%◌, ◌^◌, cond, leb, ltb, eqb, Float, Option, Some, None}
 use Rattle.std.specs.Float.{binary32}
 use Rattle.std.specs.Float.Ieee.{to_bits}
 use Rattle.float_forms.specs.declared.forms.Form.TheVariants as forms
 use Rattle.float_forms.specs.Representable.{representable}
-use Rattle.float_forms.specs.declared.short.Short.{Short}
-use Rattle.float_forms.specs.declared.short.Short.TheVariants.{Pattern, Unrepresentable}
 
 -- the guess at a magnitude: infinity; a normal number; zero, or too small; a subnormal number
 unfoldable pub guess_size : ℕ → ℕ
@@ -19,5 +17,5 @@ guess_size size =
 unfoldable pub guess : ℕ → ℕ
 guess bits = bits / 0x8000_0000_0000_0000 * 0x8000_0000 + guess_size (bits % 0x8000_0000_0000_0000)
 
-unfoldable pub short_of : Float → Short
-short_of x = cond (representable forms.Short x) (Pattern (to_bits binary32 x)) Unrepresentable
+unfoldable pub short_of : Float → Option ℕ
+short_of x = cond (representable forms.Short x) (Some (to_bits binary32 x)) None

@@ -1,17 +1,15 @@
 -- "the big-endian value of the eight bytes there, and nothing exactly where fewer are left" (document 02, M-108). Definitions only. Assumes
 -- nothing.
-use Rattle.std.specs.Prelude.{ℕ, ◌+◌, ◌*◌, cond, List, leb, get_or, length}
-use Rattle.float_forms.specs.declared.reader.Word.{Word}
-use Rattle.float_forms.specs.declared.reader.Word.TheVariants.{Bits, Nothing}
+use Rattle.std.specs.Prelude.{ℕ, ◌+◌, ◌*◌, cond, List, Option, Some, None, leb, get_or, length}
 
 -- what each case of the code's answer says: the value, or nothing
 pub data Read : Type 0 where
   value : ℕ → Read
   nothing : Read
 
-abbrev pub says : Word → Read
-says (Bits bits) = value bits
-says Nothing = nothing
+abbrev pub says : Option ℕ → Read
+says (Some bits) = value bits
+says None = nothing
 
 abbrev pub byte_at : List ℕ → ℕ → ℕ
 byte_at bytes place = get_or bytes place 0

@@ -5,10 +5,10 @@ ghost use Rattle.float_forms.specs.Forms.{size_of, format_of};
 ghost use Rattle.float_forms.specs.Bytes.{word_of, word_bytes, pattern_bytes, number_of};
 
 use crate::forms::Form;
-use crate::reader::Word;
-use crate::{forms, reader, short};
+use crate::{reader, short};
 
 // The u32 whose four bytes begin at a place.
+#[tactic(auto, using(crate::proofs::PlaceLaws::word_at_place))]
 pub fn word_at(bytes: &[u8], place: usize) -> u64
     requires { place + 4 ≤ length bytes.now }
     ensures { (result ≡ word_of (drop place bytes.now)) × (result < 4294967296) }
@@ -19,12 +19,12 @@ pub fn word_at(bytes: &[u8], place: usize) -> u64
 }
 
 // The float whose eight bytes begin at a place. A NaN pattern has no from_bits: it is made by 0/0.
+#[tactic(auto, using(crate::proofs::PlaceLaws::long_reads))]
 fn long_at(bytes: &[u8], place: usize) -> f64
     requires { place + 8 ≤ length bytes.now }
     ensures { result ≡ number_of Form.Long (drop place bytes.now) }
 {
-    let word = reader::word_at(bytes, place);
-    let Word::Bits(bits) = word else {
+    let Some(bits) = reader::word_at(bytes, place) else {
         return 0.0 / 0.0;
     };
     if bits % 0x8000_0000_0000_0000 > 0x7ff0_0000_0000_0000 {
@@ -34,6 +34,7 @@ fn long_at(bytes: &[u8], place: usize) -> f64
 }
 
 // The float whose four bytes begin at a place.
+#[tactic(auto, using(crate::proofs::PlaceLaws::short_number_lem))]
 fn short_at(bytes: &[u8], place: usize) -> f64
     requires { place + 4 ≤ length bytes.now }
     ensures { result ≡ number_of Form.Short (drop place bytes.now) }
@@ -43,17 +44,20 @@ fn short_at(bytes: &[u8], place: usize) -> f64
 }
 
 // The float that begins at a place.
+#[tactic(auto, using(crate::proofs::PlaceLaws::first_number))]
 pub fn number_at(form: Form, bytes: &[u8], place: usize) -> f64
     requires { place + size_of form ≤ length bytes.now }
     ensures { result ≡ number_of form (drop place bytes.now) }
 {
-    if forms::size_of(form) == 4 {
-        return short_at(bytes, place);
+    match form {
+        Form::First => long_at(bytes, place),
+        Form::Long => long_at(bytes, place),
+        Form::Short => short_at(bytes, place),
     }
-    long_at(bytes, place)
 }
 
 // A u32's four bytes from a place on; the rest stays as it was.
+#[tactic(auto, unfolding(crate::specs::Bytes::word_bytes))]
 pub fn put_word(out: &mut [u8], place: usize, word: u64)
     requires { (place + 4 ≤ length out.old) × (word < 4294967296) }
     ensures { out.new ≡ sets out.old place (word_bytes word) }
@@ -65,6 +69,7 @@ pub fn put_word(out: &mut [u8], place: usize, word: u64)
 }
 
 // A float's eight bytes from a place on, from its pattern.
+#[tactic(auto, using(crate::proofs::PlaceLaws::put_long))]
 fn put_long(out: &mut [u8], place: usize, bits: u64)
     requires { place + 8 ≤ length out.old }
     ensures { out.new ≡ sets out.old place (pattern_bytes Form.Long bits) }
@@ -74,13 +79,14 @@ fn put_long(out: &mut [u8], place: usize, bits: u64)
 }
 
 // A float's bytes from a place on.
+#[tactic(auto, using(crate::proofs::PlaceLaws::first_bytes, crate::proofs::PlaceLaws::put_short))]
 pub fn put_pattern(form: Form, out: &mut [u8], place: usize, bits: u64)
     requires { (place + size_of form ≤ length out.old) × (bits < 2 * top (format_of form)) }
     ensures { out.new ≡ sets out.old place (pattern_bytes form bits) }
 {
-    if forms::size_of(form) == 4 {
-        put_word(out, place, bits);
-        return;
+    match form {
+        Form::First => put_long(out, place, bits),
+        Form::Long => put_long(out, place, bits),
+        Form::Short => put_word(out, place, bits),
     }
-    put_long(out, place, bits);
 }

@@ -1,53 +1,78 @@
 ghost use Rattle.std.specs.Prelude.{◌≡◌};
-ghost use Rattle.float_forms.specs.Forms.{size_of, version_of, rays_of, form_of, long_form};
+ghost use Rattle.float_forms.specs.Forms.{size_of, version_of, rays_of, form_of, long_form, Versioned};
 
 // How a record writes its floats, by its version: 1 and 2 in 8 bytes, 3 in 4. A ray of version 1 has no near distance.
-#[derive(Clone, Copy)]
+#[derive(Clone, Copy, Debug, PartialEq, Eq)]
 pub enum Form {
     First,
     Long,
     Short,
 }
 
-// A converter's answer.
-#[derive(Clone, Copy)]
-pub enum Converted {
-    // The whole record written is so many bytes long, the four of its length among them.
-    Written(usize),
-    // 2 malformed, 3 no room, or 11, a float that is not representable.
-    Refused(u32),
-}
+// A byte that is no version of a record.
+#[derive(Clone, Copy, Debug, PartialEq, Eq)]
+pub struct UnknownVersion(pub u8);
 
-// How many bytes a float has.
-pub fn size_of(form: Form) -> usize
-    ensures { result ≡ size_of form }
-{
-    match form {
-        Form::First => 8,
-        Form::Long => 8,
-        Form::Short => 4,
+impl TryFrom<u8> for Form {
+    type Error = UnknownVersion;
+
+    ghost try_from_gives = { Versioned };
+
+    fn try_from(version: u8) -> Result<Form, UnknownVersion> {
+        match version {
+            1 => Ok(Form::First),
+            2 => Ok(Form::Long),
+            3 => Ok(Form::Short),
+            _ => Err(UnknownVersion(version)),
+        }
     }
 }
 
 // The version byte.
-pub fn version_of(form: Form) -> u8
-    ensures { result ≡ version_of form }
-{
-    match form {
-        Form::First => 1,
-        Form::Long => 2,
-        Form::Short => 3,
+impl From<Form> for u8 {
+    ghost from_gives = { λ form version. version ≡ version_of form };
+
+    fn from(form: Form) -> u8 {
+        match form {
+            Form::First => 1,
+            Form::Long => 2,
+            Form::Short => 3,
+        }
     }
 }
 
-// How many floats a ray has.
-pub fn ray_count(form: Form) -> usize
-    ensures { result ≡ rays_of form }
-{
-    match form {
-        Form::First => 7,
-        Form::Long => 8,
-        Form::Short => 8,
+impl Form {
+    // How many bytes a float has.
+    pub fn size_of(self) -> usize
+        ensures { result ≡ size_of self }
+    {
+        match self {
+            Form::First => 8,
+            Form::Long => 8,
+            Form::Short => 4,
+        }
+    }
+
+    // How many floats a ray has.
+    pub fn ray_count(self) -> usize
+        ensures { result ≡ rays_of self }
+    {
+        match self {
+            Form::First => 7,
+            Form::Long => 8,
+            Form::Short => 8,
+        }
+    }
+
+    // The form with the same fields and floats of 8 bytes.
+    pub fn long_form(self) -> Form
+        ensures { result ≡ long_form self }
+    {
+        match self {
+            Form::First => Form::First,
+            Form::Long => Form::Long,
+            Form::Short => Form::Long,
+        }
     }
 }
 
@@ -55,22 +80,5 @@ pub fn ray_count(form: Form) -> usize
 pub fn form_of(version: u8) -> Form
     ensures { result ≡ form_of version }
 {
-    if version == 1 {
-        return Form::First;
-    }
-    if version == 3 {
-        return Form::Short;
-    }
-    Form::Long
-}
-
-// The form with the same fields and floats of 8 bytes.
-pub fn long_form(form: Form) -> Form
-    ensures { result ≡ long_form form }
-{
-    match form {
-        Form::First => Form::First,
-        Form::Long => Form::Long,
-        Form::Short => Form::Long,
-    }
+    Form::try_from(version).unwrap_or(Form::Long)
 }

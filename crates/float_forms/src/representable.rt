@@ -6,75 +6,66 @@ ghost use Rattle.float_forms.specs.Representable.{representable, fits_in};
 ghost use Rattle.float_forms.specs.Representable.{pattern_for};
 
 use crate::forms::Form;
-use crate::{forms, short};
-
-// The pattern that stands for a float exactly, if the form has one.
-#[derive(Clone, Copy)]
-pub enum Pattern {
-    Bits(u64),
-    Unrepresentable,
-}
+use crate::short;
 
 // In eight bytes every number is representable.
-fn long_for(x: f64) -> Pattern
+#[tactic(auto, using(crate::proofs::RepresentableLaws::long_patterns))]
+fn long_for(x: f64) -> Option<u64>
     ensures { result ≡ pattern_for Form.Long x }
 {
     if x != x {
-        return Pattern::Unrepresentable;
+        return None;
     }
-    Pattern::Bits(f64::to_bits(x))
+    Some(f64::to_bits(x))
 }
 
-fn short_for(x: f64) -> Pattern
+#[tactic(auto, using(crate::proofs::RepresentableLaws::short_representable, crate::proofs::RepresentableLaws::short_unrepresentable))]
+fn short_for(x: f64) -> Option<u64>
     ensures { result ≡ pattern_for Form.Short x }
 {
-    let short = short::short_of(x);
-    let short::Short::Pattern(bits) = short else {
-        return Pattern::Unrepresentable;
-    };
-    Pattern::Bits(bits as u64)
+    let bits = short::short_of(x)?;
+    Some(u64::from(bits))
 }
 
-pub fn pattern_for(form: Form, x: f64) -> Pattern
+// The pattern that stands for a float exactly, if the form has one.
+#[tactic(auto, using(crate::proofs::RepresentableLaws::first_pattern))]
+pub fn pattern_for(form: Form, x: f64) -> Option<u64>
     ensures { result ≡ pattern_for form x }
 {
-    if forms::size_of(form) == 4 {
-        return short_for(x);
+    match form {
+        Form::First => long_for(x),
+        Form::Long => long_for(x),
+        Form::Short => short_for(x),
     }
-    long_for(x)
 }
 
+#[tactic(auto, using(crate::proofs::RepresentableLaws::by_pattern))]
 pub fn is_representable(form: Form, x: f64) -> bool
     ensures { result ≡ representable form x }
 {
-    let pattern = pattern_for(form, x);
-    match pattern {
-        Pattern::Bits(_) => true,
-        Pattern::Unrepresentable => false,
-    }
+    pattern_for(form, x).is_some()
 }
 
 // The pattern that stands for NaN.
+#[tactic(auto, using(crate::proofs::RepresentableLaws::long_nan, crate::proofs::RepresentableLaws::short_nan))]
 fn nan_bits(form: Form) -> u64
     ensures { result ≡ to_bits (format_of form) nan }
 {
-    if forms::size_of(form) == 4 {
-        return 0x7fc0_0000;
+    match form {
+        Form::First => 0x7ff8_0000_0000_0000,
+        Form::Long => 0x7ff8_0000_0000_0000,
+        Form::Short => 0x7fc0_0000,
     }
-    0x7ff8_0000_0000_0000
 }
 
-// The pattern of a float of the form's format.
+// The pattern of a float of the form's format. One that no pattern stands for is NaN.
+#[tactic(auto, using(crate::proofs::RepresentableLaws::number_stands))]
 pub fn bits_for(form: Form, x: f64) -> u64
     requires { fits_in form x ≡ true }
     ensures { (result ≡ to_bits (format_of form) x) × (result < 2 * top (format_of form)) }
 {
-    if x != x {
-        return nan_bits(form);
+    match pattern_for(form, x) {
+        Some(bits) => bits,
+        None => nan_bits(form),
     }
-    let pattern = pattern_for(form, x);
-    let Pattern::Bits(bits) = pattern else {
-        return 0;
-    };
-    bits
 }

@@ -5,34 +5,27 @@ ghost use Rattle.float_forms.specs.Bytes.{numbers_of, numbers_bytes, words_of, w
 ghost use Rattle.float_forms.specs.Representable.{every, representable, fits_in};
 
 use crate::forms::Form;
-use crate::{bytes, forms, representable};
+use crate::{bytes, representable};
 
 // So many floats from a place on, to the front of an area.
 pub fn read_floats(form: Form, source: &[u8], place: usize, count: usize, out: &mut [f64])
     requires { (place + size_of form * count ≤ length source.now) × (count ≤ length out.old) }
     ensures { out.new ≡ sets out.old 0 (numbers_of form count (drop place source.now)) }
 {
-    let size = forms::size_of(form);
-    let mut from = place;
-    let mut i = 0;
-    while i < count {
-        out[i] = bytes::number_at(form, source, from);
-        from += size;
-        i += 1;
+    let size = form.size_of();
+    for i in 0..count {
+        out[i] = bytes::number_at(form, source, place + size * i);
     }
 }
 
-// So many u32, in the same way.
+// So many u32, in the same way. Not one function with the one above: the contract over a function that reads one number would be longer
+// than this loop.
 pub fn read_words(source: &[u8], place: usize, count: usize, out: &mut [u32])
     requires { (place + 4 * count ≤ length source.now) × (count ≤ length out.old) }
     ensures { out.new ≡ sets out.old 0 (words_of count (drop place source.now)) }
 {
-    let mut from = place;
-    let mut i = 0;
-    while i < count {
-        out[i] = bytes::word_at(source, from) as u32;
-        from += 4;
-        i += 1;
+    for i in 0..count {
+        out[i] = bytes::word_at(source, place + 4 * i) as u32;
     }
 }
 
@@ -41,15 +34,11 @@ pub fn floats_representable(p: Form, q: Form, source: &[u8], place: usize, count
     requires { place + size_of p * count ≤ length source.now }
     ensures { result ≡ every (representable q) (numbers_of p count (drop place source.now)) }
 {
-    let size = forms::size_of(p);
-    let mut from = place;
-    let mut left = count;
-    while left > 0 {
-        if !representable::is_representable(q, bytes::number_at(p, source, from)) {
+    let size = p.size_of();
+    for i in 0..count {
+        if !representable::is_representable(q, bytes::number_at(p, source, place + size * i)) {
             return false;
         }
-        from += size;
-        left -= 1;
     }
     true
 }
@@ -69,32 +58,18 @@ pub fn put_floats(
     ensures { out.new ≡ sets out.old at
         (numbers_bytes q (numbers_of p count (drop place source.now))) }
 {
-    let size = forms::size_of(p);
-    let step = forms::size_of(q);
-    let mut from = place;
-    let mut to = at;
-    let mut left = count;
-    while left > 0 {
-        let bits = representable::bits_for(q, bytes::number_at(p, source, from));
-        bytes::put_pattern(q, out, to, bits);
-        from += size;
-        to += step;
-        left -= 1;
+    let size = p.size_of();
+    let step = q.size_of();
+    for i in 0..count {
+        let bits = representable::bits_for(q, bytes::number_at(p, source, place + size * i));
+        bytes::put_pattern(q, out, at + step * i, bits);
     }
 }
 
-// So many u32.
+// So many u32, whose bytes are the same in every form.
 pub fn put_words(source: &[u8], place: usize, count: usize, out: &mut [u8], at: usize)
     requires { (place + 4 * count ≤ length source.now) × (at + 4 * count ≤ length out.old) }
     ensures { out.new ≡ sets out.old at (words_bytes (words_of count (drop place source.now))) }
 {
-    let mut from = place;
-    let mut to = at;
-    let mut left = count;
-    while left > 0 {
-        bytes::put_word(out, to, bytes::word_at(source, from));
-        from += 4;
-        to += 4;
-        left -= 1;
-    }
+    out[at..at + 4 * count].copy_from_slice(&source[place..place + 4 * count]);
 }

@@ -25,13 +25,11 @@ pub fn close_to_unit_length(vector: Vec3) -> bool
     ensures { result ≡ close_to_unit_length vector }
 {
     let square = vector.dot(vector);
-    if square >= LEAST_UNIT_SQUARE {
-        return square <= GREATEST_UNIT_SQUARE;
-    }
-    false
+    square >= LEAST_UNIT_SQUARE && square <= GREATEST_UNIT_SQUARE
 }
 
 // Whether a vector is finite, by one comparison: a finite number less itself is 0, any other is NaN, and a NaN stays in the sum.
+#[tactic(auto, using(crate::proofs::Differences::differences_tell))]
 fn all_finite(vector: Vec3) -> bool
     ensures { result ≡ finite_vec vector }
 {
@@ -43,13 +41,7 @@ impl Ray {
     pub fn validate(self) -> bool
         ensures { result ≡ ray_admitted self }
     {
-        if !all_finite(self.origin) {
-            return false;
-        }
-        if !close_to_unit_length(self.direction) {
-            return false;
-        }
-        self.range_admitted()
+        all_finite(self.origin) && close_to_unit_length(self.direction) && self.range_admitted()
     }
 
     // Whether the maximum and the near distance are admitted: each finite and at least 0, near not above the maximum.
@@ -57,16 +49,11 @@ impl Ray {
     pub fn range_admitted(self) -> bool
         ensures { result ≡ range_admitted self }
     {
-        if !(0.0 <= self.near) {
-            return false;
-        }
-        if !(self.near <= self.max_distance) {
-            return false;
-        }
-        basic::is_finite(self.max_distance)
+        0.0 <= self.near && self.near <= self.max_distance && basic::is_finite(self.max_distance)
     }
 
     // origin + direction·maximum.
+    #[tactic(auto, unfolding(crate::specs::Segment::segment_end))]
     pub fn segment_end(self) -> Vec3
         ensures { result ≡ segment_end self }
     {

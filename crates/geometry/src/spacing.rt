@@ -4,11 +4,9 @@ ghost use Rattle.geometry.specs.Spacing.{spacing_admitted};
 use arithmetic::basic;
 
 // Whether refusal 2 lets a spacing pass.
+#[tactic(auto, unfolding(crate::specs::Spacing::spacing_admitted))]
 pub fn spacing_admitted(spacing: f64) -> bool
     ensures { result ≡ spacing_admitted spacing }
 {
-    if basic::is_finite(spacing) {
-        return 0.0 < spacing;
-    }
-    false
+    basic::is_finite(spacing) && 0.0 < spacing
 }

@@ -22,8 +22,7 @@ use Rattle.grid_steps.specs.Slab.{kept, cut, slab_from, slab, started, ray_aabb_
 use Rattle.grid_steps.specs.Cells.{slack, leaves_node, whole_cell, cell_at, cell_on_axis, ray_cell_indices, node_ahead}
 use Rattle.grid_steps.specs.Cells.{boundary_distance, boundary_by, axis_boundary, next_cell_boundary}
 use Rattle.distance_grid.specs.Places.{up_to, floor_cell, top_of, clamped_to, clamped, clamped_point, cell_below, place_of, place_at}
-use Rattle.distance_grid.specs.Places.{locate_axis}
-use Rattle.distance_grid.specs.Places.{locate_inside, locate}
+use Rattle.distance_grid.specs.Places.{locate_axis, locate_inside, locate}
 use Rattle.distance_grid.specs.Faces.{value_at, face_at}
 use Rattle.distance_grid.specs.Steps.{checked, blend, lerp, checked_difference, over, lerp_face, value_on, slope_on}
 use Rattle.distance_grid.specs.Sampling.{gathered, sample_faces, sample_cell, sample}
@@ -35,7 +34,7 @@ use Rattle.level_set.specs.Hits.{point_at, along, hit_with, hit_along, touch_at,
 use Rattle.level_set.specs.Walk.{goes_on, cell_by, cell_cast, goes_to, walk_step, cell_limit, walk_from, level_set_cast, ray_level_set}
 use Rattle.grid_laws.specs.Refusing.{outside_side, outside, locate_refusing, sample_refusing, hit_by, touch_by, value_by, samples_by}
 use Rattle.grid_laws.specs.Refusing.{cell_cast_by, goes_to_by, walk_step_by, walk_by, cast_by, ray_level_set_refusing}
-use Rattle.distance_grid.specs.declared.places.Place.TheVariants.{Overflow as NoPlace}
+use Rattle.distance_grid.specs.Places.{NoPlace}
 use Rattle.grid_laws.proofs.DistanceExamples.{grid₁₃, values₁₃}
 
 -- down along the face x = 0, leaning out of it by 2 ^ -1074

@@ -25,8 +25,7 @@ use Rattle.geometry.specs.Spacing.{spacing_admitted}
 use Rattle.distance_grid.specs.Grid.{whole, last_node}
 use Rattle.distance_grid.specs.Places.{top_of, clamped_to, clamped, place_of, place_at, locate_axis}
 use Rattle.grid_laws.specs.Clamping.{AxisStands, Admitted, Nearest, ClampedRight}
-use Rattle.distance_grid.specs.declared.places.Place.{Place}
-use Rattle.distance_grid.specs.declared.places.Place.TheVariants.{At as PlaceAt, Overflow as NoPlace}
+use Rattle.distance_grid.specs.Places.{Place, PlaceAt, NoPlace}
 
 -- ---- small facts of floats
 plain_above : (p : Float) → is_finite p ≡ true → negative p ≡ false → le nothing p ≡ true

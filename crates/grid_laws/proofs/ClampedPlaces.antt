@@ -15,10 +15,7 @@ use Rattle.distance_grid.specs.Grid.{last_node, grid_box, grid_admitted}
 use Rattle.distance_grid.specs.Places.{clamped, clamped_point, locate_axis, with_place, locate_inside, locate}
 use Rattle.grid_laws.specs.Clamping.{AxisStands, AxesStand, RefusedInside, VectorFits}
 use Rattle.distance_grid.specs.declared.grid.Grid.{Grid}
-use Rattle.distance_grid.specs.declared.places.Place.{Place}
-use Rattle.distance_grid.specs.declared.places.Place.TheVariants.{At as PlaceAt, Overflow as NoPlace}
-use Rattle.distance_grid.specs.declared.places.Located.{Located}
-use Rattle.distance_grid.specs.declared.places.Located.TheVariants.{At, Refused}
+use Rattle.distance_grid.specs.Places.{Place, PlaceAt, NoPlace, Located, LocatedAt as At, NotLocated as Refused}
 use Rattle.grid_laws.proofs.ClampedLaws.{clamped_right}
 use Rattle.grid_laws.proofs.AxisLaws.{axes_stand}
 

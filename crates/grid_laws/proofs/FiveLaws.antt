@@ -12,15 +12,9 @@ use Rattle.vectors.specs.Numbers.{zeroᶠ}
 use Rattle.geometry.specs.Segment.{ray_admitted}
 use Rattle.vectors.specs.Vector.{finite_vec, try_normalize}
 use Rattle.vectors.specs.declared.vec3.Vec3.{Vec3}
-use Rattle.vectors.specs.declared.vec3.Checked.{Checked}
-use Rattle.vectors.specs.declared.vec3.Checked.TheVariants.{Value, Overflow}
-use Rattle.vectors.specs.declared.vec3.Normalized.{Normalized}
-use Rattle.vectors.specs.declared.vec3.Normalized.TheVariants.{Unit as UnitOf, Degenerate}
 use Rattle.geometry.specs.declared.ray.Ray.{Ray}
 use Rattle.casts.specs.Answer.{Answer, hit, none, refused, with_normal, invalid_input, bad_shape, out_of_bounds, overflow, not_convergent}
-use Rattle.cubic.specs.Roots.{first_cubic_root}
-use Rattle.cubic.specs.declared.roots.Root.{Root}
-use Rattle.cubic.specs.declared.roots.Root.TheVariants.{At as RootAt, None as NoRoot, Overflow as RootOverflow}
+use Rattle.cubic.specs.Roots.{first_cubic_root, Root, At as RootAt, None as NoRoot, Overflow as RootOverflow}
 use Rattle.distance_grid.specs.Grid.{grid_admitted, grid_box}
 use Rattle.grid_steps.specs.Slab.{ray_aabb_interval}
 use Rattle.grid_steps.specs.Cells.{ray_cell_indices, next_cell_boundary}
@@ -31,22 +25,13 @@ use Rattle.level_set.specs.Hits.{point_at, along, with_sample, hit_with, hit_alo
 use Rattle.level_set.specs.Walk.{CellResult, done, on, goes_on, root_result, cell_by, cell_cast, goes_to, with_samples, with_boundary}
 use Rattle.level_set.specs.Walk.{with_cells, walk_step, follow, cell_limit, walk_from, with_interval, level_set_cast, ray_level_set}
 use Rattle.distance_grid.specs.declared.grid.Grid.{Grid}
-use Rattle.grid_steps.specs.declared.interval.Interval.{Interval}
-use Rattle.grid_steps.specs.declared.interval.Interval.TheVariants.{Within, Miss}
-use Rattle.grid_steps.specs.declared.cells.Cells.{Cells}
-use Rattle.grid_steps.specs.declared.cells.Cells.TheVariants.{At as CellsAt, Overflow as NoCells}
-use Rattle.grid_steps.specs.declared.cells.Boundary.{Boundary}
-use Rattle.grid_steps.specs.declared.cells.Boundary.TheVariants.{At as BoundaryAt, Overflow as NoBoundary}
-use Rattle.distance_grid.specs.declared.places.Place.{Place}
-use Rattle.distance_grid.specs.declared.places.Place.TheVariants.{At as PlaceAt, Overflow as NoPlace}
-use Rattle.distance_grid.specs.declared.places.Located.{Located}
-use Rattle.distance_grid.specs.declared.places.Located.TheVariants.{At as LocatedAt, Refused as NotLocated}
-use Rattle.distance_grid.specs.declared.sampling.Sampled.{Sampled}
-use Rattle.distance_grid.specs.declared.sampling.Sampled.TheVariants.{At as SampledAt, Refused as SampleRefused}
-use Rattle.distance_grid.specs.declared.valued.Valued.{Valued}
-use Rattle.distance_grid.specs.declared.valued.Valued.TheVariants.{At as ValuedAt, Refused as NoValue}
-use Rattle.level_set.specs.declared.hits.Samples.{Samples}
-use Rattle.level_set.specs.declared.hits.Samples.TheVariants.{All, Refused as SamplesRefused}
+use Rattle.grid_steps.specs.Slab.{Interval, Within, Miss}
+use Rattle.grid_steps.specs.Cells.{Cells, CellsAt, NoCells}
+use Rattle.std.specs.Prelude.{Option, Some, None}
+use Rattle.distance_grid.specs.Places.{Place, PlaceAt, NoPlace, Located, LocatedAt, NotLocated}
+use Rattle.distance_grid.specs.Sampling.{Sampled, SampledAt, SampleRefused}
+use Rattle.distance_grid.specs.Valued.{Valued, ValuedAt, NoValue}
+use Rattle.level_set.specs.Hits.{Samples, All, SamplesRefused}
 
 -- ---- a place, a sample and a value: there, or refused with 6
 data FoundPlace : Located → Type 0 where
@@ -90,13 +75,13 @@ sample_chosen : (t : Bool) {a b : Sampled} → FoundSample a → FoundSample b �
 sample_chosen true h k = h
 sample_chosen false h k = k
 
-gathered_found : (v a b c : Checked) → FoundSample (gathered v a b c)
+gathered_found : (v a b c : Option Float) → FoundSample (gathered v a b c)
 unfolding gathered
-gathered_found (Value v) (Value a) (Value b) (Value c) = sample_chosen (finite_vec record { x = a; y = b; z = c }) found_sample no_sample
-gathered_found (Value v) (Value a) (Value b) Overflow = no_sample
-gathered_found (Value v) (Value a) Overflow c = no_sample
-gathered_found (Value v) Overflow b c = no_sample
-gathered_found Overflow a b c = no_sample
+gathered_found (Some v) (Some a) (Some b) (Some c) = sample_chosen (finite_vec record { x = a; y = b; z = c }) found_sample no_sample
+gathered_found (Some v) (Some a) (Some b) None = no_sample
+gathered_found (Some v) (Some a) None c = no_sample
+gathered_found (Some v) None b c = no_sample
+gathered_found None a b c = no_sample
 
 located_found : (g : Grid) (values : List Float) (l : Located) → FoundPlace l
     → FoundSample (with_located l (λ (x y z : ℕ) (at : Vec3). sample_cell g values x y z at))
@@ -179,9 +164,9 @@ hit_with_other : (gradient : Vec3) (distance : Float) → Other (hit_with gradie
 unfolding hit_with
 hit_with_other gradient distance = go (try_normalize gradient)
   where
-    go : (n : Normalized) → Other (with_normal n not_convergent (λ (normal : Vec3). hit normal distance))
-    go (UnitOf normal) = other_hit
-    go Degenerate = other_eight
+    go : (n : Option Vec3) → Other (with_normal n not_convergent (λ (normal : Vec3). hit normal distance))
+    go (Some normal) = other_hit
+    go None = other_eight
 
 with_sample_lem : (s : Sampled) (k : Float → Vec3 → Answer) → FoundSample s → ((value : Float) (gradient : Vec3) → Other (k value gradient))
     → Other (with_sample s k)
@@ -233,9 +218,9 @@ module _ (r : Ray) (g : Grid) (values : List Float) where
   goes_other current exit next =
       chosen_turn (le next current) (other_done (touch_other current)) (cell_other current (minimum_of next exit) exit)
 
-  with_boundary_lem : (b : Boundary) (k : Float → CellResult) → ((a : Float) → OtherResult (k a)) → OtherResult (with_boundary b k)
-  with_boundary_lem (BoundaryAt a) k o = o a
-  with_boundary_lem NoBoundary k o = other_done other_six
+  with_boundary_lem : (b : Option Float) (k : Float → CellResult) → ((a : Float) → OtherResult (k a)) → OtherResult (with_boundary b k)
+  with_boundary_lem (Some a) k o = o a
+  with_boundary_lem None k o = other_done other_six
 
   with_cells_lem : (c : Cells) (k : ℕ → ℕ → ℕ → CellResult) → ((x y z : ℕ) → OtherResult (k x y z)) → OtherResult (with_cells c k)
   with_cells_lem (CellsAt x y z) k o = o x y z

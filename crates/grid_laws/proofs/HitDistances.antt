@@ -30,9 +30,7 @@ use Rattle.lists.proofs.JoinedTests.{and_first, and_second}
 use Rattle.casts.specs.Answer.{Answer, hit, none, refused, invalid_input, bad_shape, out_of_bounds, overflow, not_convergent}
 use Rattle.casts.proofs.AnswerLists.{OfHit}
 use Rattle.casts.proofs.HitLaws.{of_none, of_refused, of_hit, of_cond, of_with_normal}
-use Rattle.cubic.specs.Roots.{first_cubic_root}
-use Rattle.cubic.specs.declared.roots.Root.{Root}
-use Rattle.cubic.specs.declared.roots.Root.TheVariants.{At as RootAt, None as NoRoot, Overflow as RootOverflow}
+use Rattle.cubic.specs.Roots.{first_cubic_root, Root, At as RootAt, None as NoRoot, Overflow as RootOverflow}
 use Rattle.distance_grid.specs.Grid.{grid_admitted, grid_box}
 use Rattle.grid_steps.specs.Slab.{kept, cut, slab_from, slab, started, ray_aabb_interval}
 use Rattle.grid_steps.specs.Cells.{ray_cell_indices, slack, Axis, boundary_distance, boundary_by, axis_boundary, next_cell_boundary}
@@ -41,16 +39,11 @@ use Rattle.level_set.specs.Hits.{point_at, along, with_sample, hit_with, hit_alo
 use Rattle.level_set.specs.Walk.{CellResult, done, on, goes_on, root_result, cell_by, cell_cast, goes_to, with_samples, with_boundary}
 use Rattle.level_set.specs.Walk.{with_cells, walk_step, follow, cell_limit, walk_from, with_interval, level_set_cast, ray_level_set}
 use Rattle.distance_grid.specs.declared.grid.Grid.{Grid}
-use Rattle.grid_steps.specs.declared.interval.Interval.{Interval}
-use Rattle.grid_steps.specs.declared.interval.Interval.TheVariants.{Within, Miss}
-use Rattle.grid_steps.specs.declared.cells.Cells.{Cells}
-use Rattle.grid_steps.specs.declared.cells.Cells.TheVariants.{At as CellsAt, Overflow as NoCells}
-use Rattle.grid_steps.specs.declared.cells.Boundary.{Boundary}
-use Rattle.grid_steps.specs.declared.cells.Boundary.TheVariants.{At as BoundaryAt, Overflow as NoBoundary}
-use Rattle.distance_grid.specs.declared.sampling.Sampled.{Sampled}
-use Rattle.distance_grid.specs.declared.sampling.Sampled.TheVariants.{At as SampledAt, Refused as SampleRefused}
-use Rattle.level_set.specs.declared.hits.Samples.{Samples}
-use Rattle.level_set.specs.declared.hits.Samples.TheVariants.{All, Refused as SamplesRefused}
+use Rattle.grid_steps.specs.Slab.{Interval, Within, Miss}
+use Rattle.grid_steps.specs.Cells.{Cells, CellsAt, NoCells}
+use Rattle.std.specs.Prelude.{Option, Some, None}
+use Rattle.distance_grid.specs.Sampling.{Sampled, SampledAt, SampleRefused}
+use Rattle.level_set.specs.Hits.{Samples, All, SamplesRefused}
 use Rattle.grid_laws.proofs.RootsBetween.{RootWithin, root_at_lem, first_root_within}
 use Rattle.grid_laws.proofs.WayParts.{along_not_before}
 
@@ -199,11 +192,11 @@ module _ (r : Ray) (range : Ranged r) where
       (slab_spans _ _ _ _ _ (slab_spans _ _ _ _ _ (slab_spans _ _ _ _ _ (spans start_walked end_ends))))
 
   -- ---- the next boundary: not past the exit
-  data Reached (exit : Float) : Boundary → Type 0 where
-    reached : {next : Float} → Fits next → le next exit ≡ true → Reached exit (BoundaryAt next)
-    unreached : Reached exit NoBoundary
+  data Reached (exit : Float) : Option Float → Type 0 where
+    reached : {next : Float} → Fits next → le next exit ≡ true → Reached exit (Some next)
+    unreached : Reached exit None
 
-  chosen_reached : (exit : Float) (b : Bool) {i j : Boundary} → Reached exit i → Reached exit j → Reached exit (cond b i j)
+  chosen_reached : (exit : Float) (b : Bool) {i j : Option Float} → Reached exit i → Reached exit j → Reached exit (cond b i j)
   chosen_reached exit true p q = p
   chosen_reached exit false p q = q
 
@@ -219,13 +212,13 @@ module _ (r : Ray) (range : Ranged r) where
       (reached f l))
       unreached
 
-  axis_reached : (exit : Float) (b : Boundary) (current : Float) (a : Axis) (cell : ℕ) → Reached exit b
+  axis_reached : (exit : Float) (b : Option Float) (current : Float) (a : Axis) (cell : ℕ) → Reached exit b
       → Reached exit (axis_boundary b current a cell)
   unfolding axis_boundary
-  axis_reached exit (BoundaryAt least) current a cell (reached f l) =
+  axis_reached exit (Some least) current a cell (reached f l) =
       chosen_reached exit (eq a.direction zeroᶠ) (reached f l)
       (by_reached exit least current a.point (boundary_distance a cell) f l)
-  axis_reached exit NoBoundary current a cell unreached = unreached
+  axis_reached exit None current a cell unreached = unreached
 
   next_reached : (g : Grid) (current : Float) (p d : Vec3) (x y z : ℕ) (exit : Float) → Ends exit
       → Reached exit (next_cell_boundary g current p d x y z exit)
@@ -318,10 +311,10 @@ module _ (r : Ray) (range : Ranged r) where
         (lesser_first next exit (not_lt_of_le next exit l) number)
         (cell_turn current next exit w ahead later))
 
-    with_boundary_lem : (exit : Float) (b : Boundary) (next : Float → CellResult) → Reached exit b
+    with_boundary_lem : (exit : Float) (b : Option Float) (next : Float → CellResult) → Reached exit b
         → ((a : Float) → Fits a → le a exit ≡ true → TurnOf (next a)) → TurnOf (with_boundary b next)
-    with_boundary_lem exit (BoundaryAt a) next (reached f l) p = p a f l
-    with_boundary_lem exit NoBoundary next unreached p = ended (of_refused (FromNear r) overflow)
+    with_boundary_lem exit (Some a) next (reached f l) p = p a f l
+    with_boundary_lem exit None next unreached p = ended (of_refused (FromNear r) overflow)
 
     with_cells_lem : (c : Cells) (next : ℕ → ℕ → ℕ → CellResult) → ((x y z : ℕ) → TurnOf (next x y z)) → TurnOf (with_cells c next)
     with_cells_lem (CellsAt x y z) next p = p x y z

@@ -24,8 +24,7 @@ use Rattle.grid_steps.specs.Slab.{kept, cut, slab_from, slab, started, ray_aabb_
 use Rattle.grid_steps.specs.Cells.{slack, leaves_node, whole_cell, cell_at, cell_on_axis, ray_cell_indices, node_ahead}
 use Rattle.grid_steps.specs.Cells.{boundary_distance, boundary_by, axis_boundary, next_cell_boundary}
 use Rattle.distance_grid.specs.Places.{up_to, floor_cell, top_of, clamped_to, clamped, clamped_point, cell_below, place_of, place_at}
-use Rattle.distance_grid.specs.Places.{locate_axis}
-use Rattle.distance_grid.specs.Places.{locate_inside, locate}
+use Rattle.distance_grid.specs.Places.{locate_axis, locate_inside, locate}
 use Rattle.distance_grid.specs.Faces.{value_at, face_at}
 use Rattle.distance_grid.specs.Steps.{checked, blend, lerp, checked_difference, over, lerp_face, value_on, slope_on}
 use Rattle.distance_grid.specs.Sampling.{gathered, sample_faces, sample_cell, sample}

@@ -15,9 +15,7 @@ use Rattle.vectors.specs.Vector.{finite_vec}
 use Rattle.vectors.specs.declared.vec3.Vec3.{Vec3}
 use Rattle.geometry.specs.declared.ray.Ray.{Ray}
 use Rattle.casts.specs.Answer.{Answer, none, refused, out_of_bounds}
-use Rattle.cubic.specs.Roots.{first_cubic_root}
-use Rattle.cubic.specs.declared.roots.Root.{Root}
-use Rattle.cubic.specs.declared.roots.Root.TheVariants.{At as RootAt, None as NoRoot, Overflow as RootOverflow}
+use Rattle.cubic.specs.Roots.{first_cubic_root, Root, At as RootAt, None as NoRoot, Overflow as RootOverflow}
 use Rattle.distance_grid.specs.Grid.{last_node, last_corner, grid_admitted, grid_box}
 use Rattle.grid_steps.specs.Slab.{ray_aabb_interval}
 use Rattle.grid_steps.specs.Cells.{ray_cell_indices, next_cell_boundary}
@@ -31,20 +29,13 @@ use Rattle.level_set.specs.Walk.{walk_step, follow, cell_limit, walk_from, with_
 use Rattle.grid_laws.specs.Refusing.{outside_side, outside, locate_refusing, sample_refusing, hit_by, touch_by, value_by, samples_by}
 use Rattle.grid_laws.specs.Refusing.{root_by, cell_cast_by, goes_to_by, walk_step_by, walk_by, cast_by, ray_level_set_refusing}
 use Rattle.distance_grid.specs.declared.grid.Grid.{Grid}
-use Rattle.grid_steps.specs.declared.interval.Interval.{Interval}
-use Rattle.grid_steps.specs.declared.interval.Interval.TheVariants.{Within, Miss}
-use Rattle.grid_steps.specs.declared.cells.Cells.{Cells}
-use Rattle.grid_steps.specs.declared.cells.Cells.TheVariants.{At as CellsAt, Overflow as NoCells}
-use Rattle.grid_steps.specs.declared.cells.Boundary.{Boundary}
-use Rattle.grid_steps.specs.declared.cells.Boundary.TheVariants.{At as BoundaryAt, Overflow as NoBoundary}
-use Rattle.distance_grid.specs.declared.places.Located.{Located}
-use Rattle.distance_grid.specs.declared.places.Located.TheVariants.{Refused as NotLocated}
-use Rattle.distance_grid.specs.declared.sampling.Sampled.{Sampled}
-use Rattle.distance_grid.specs.declared.sampling.Sampled.TheVariants.{Refused as SampleRefused}
-use Rattle.distance_grid.specs.declared.valued.Valued.{Valued}
-use Rattle.distance_grid.specs.declared.valued.Valued.TheVariants.{At as ValuedAt, Refused as NoValue}
-use Rattle.level_set.specs.declared.hits.Samples.{Samples}
-use Rattle.level_set.specs.declared.hits.Samples.TheVariants.{All, Refused as SamplesRefused}
+use Rattle.grid_steps.specs.Slab.{Interval, Within, Miss}
+use Rattle.grid_steps.specs.Cells.{Cells, CellsAt, NoCells}
+use Rattle.std.specs.Prelude.{Option, Some, None}
+use Rattle.distance_grid.specs.Places.{Located, NotLocated}
+use Rattle.distance_grid.specs.Sampling.{Sampled, SampleRefused}
+use Rattle.distance_grid.specs.Valued.{Valued, ValuedAt, NoValue}
+use Rattle.level_set.specs.Hits.{Samples, All, SamplesRefused}
 
 -- the first is the refusal, or the two are the same
 abbrev Unless : {A : Type 0} → A → A → A → Type 0
@@ -201,10 +192,10 @@ module _ (g : Grid) (values : List Float) (sampled : Vec3 → Sampled)
   goes_unless r current exit next =
       chosen (le next current) (through done (touch_unless r current)) (cell_unless r current (minimum_of next exit) exit)
 
-  with_boundary_lem : (z : Boundary) (k j : Float → CellResult) → ((a : Float) → SameTurn (k a) (j a))
+  with_boundary_lem : (z : Option Float) (k j : Float → CellResult) → ((a : Float) → SameTurn (k a) (j a))
       → SameTurn (with_boundary z k) (with_boundary z j)
-  with_boundary_lem (BoundaryAt a) k j h = h a
-  with_boundary_lem NoBoundary k j h = inr refl
+  with_boundary_lem (Some a) k j h = h a
+  with_boundary_lem None k j h = inr refl
 
   with_cells_lem : (z : Cells) (k j : ℕ → ℕ → ℕ → CellResult) → ((a b c : ℕ) → SameTurn (k a b c) (j a b c))
       → SameTurn (with_cells z k) (with_cells z j)

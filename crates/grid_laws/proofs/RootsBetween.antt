@@ -14,8 +14,7 @@ use Rattle.cubic.specs.Roots.{insert, sorted, points, root_between, search_on, s
 use Rattle.cubic.specs.declared.polynomial.Cubic.{Cubic}
 use Rattle.cubic.specs.declared.halving.Halving.{Halving}
 use Rattle.cubic.specs.declared.halving.Halving.TheVariants.{Open, Found}
-use Rattle.cubic.specs.declared.roots.Root.{Root}
-use Rattle.cubic.specs.declared.roots.Root.TheVariants.{At, None, Overflow}
+use Rattle.cubic.specs.Roots.{Root, At, None, Overflow}
 use Rattle.cubic.proofs.CubicLaws.{extrema_between}
 use Rattle.cubic.proofs.UnitLaws.{Below, zero_below, one_below, between_below, middle_below}
 

@@ -6,9 +6,7 @@ use lib.Ieee.{Float, is_nan, lt, le}
 use Rattle.arithmetic.specs.Extremes.{minimum_of, maximum_of}
 use Rattle.arithmetic.proofs.Order.{not_lt_of_le, le_transitive}
 use Rattle.arithmetic.proofs.ExtremesLimits.{minimum_keeps, maximum_keeps, maximum_at_most, minimum_at_least}
-use Rattle.grid_steps.specs.Slab.{kept, cut}
-use Rattle.grid_steps.specs.declared.interval.Interval.{Interval}
-use Rattle.grid_steps.specs.declared.interval.Interval.TheVariants.{Within, Miss}
+use Rattle.grid_steps.specs.Slab.{kept, cut, Interval, Within, Miss}
 
 -- ---- on truth values
 never_both : (x y : Bool) → (x ≡ true → y ≡ true → ⊥) → false ≡ (x && y)

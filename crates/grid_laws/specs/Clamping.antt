@@ -9,7 +9,7 @@ use Rattle.geometry.specs.Spacing.{spacing_admitted}
 use Rattle.distance_grid.specs.Grid.{SideStands, last_node}
 use Rattle.distance_grid.specs.Places.{clamped, locate_axis}
 use Rattle.distance_grid.specs.declared.grid.Grid.{Grid}
-use Rattle.distance_grid.specs.declared.places.Place.TheVariants.{Overflow as NoPlace}
+use Rattle.distance_grid.specs.Places.{NoPlace}
 
 -- an axis of a grid that is admitted and whose box is valid; each f64 fits
 pub record AxisStands (origin spacing : Float) (side : ℕ) : Type 0 where

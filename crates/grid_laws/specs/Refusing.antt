@@ -10,9 +10,7 @@ use Rattle.vectors.specs.Vector.{finite_vec}
 use Rattle.vectors.specs.declared.vec3.Vec3.{Vec3}
 use Rattle.geometry.specs.declared.ray.Ray.{Ray}
 use Rattle.casts.specs.Answer.{Answer, none, refused, invalid_input, bad_shape, out_of_bounds, overflow, not_convergent}
-use Rattle.cubic.specs.Roots.{first_cubic_root}
-use Rattle.cubic.specs.declared.roots.Root.{Root}
-use Rattle.cubic.specs.declared.roots.Root.TheVariants.{At as RootAt, None as NoRoot, Overflow as RootOverflow}
+use Rattle.cubic.specs.Roots.{first_cubic_root, Root, At as RootAt, None as NoRoot, Overflow as RootOverflow}
 use Rattle.distance_grid.specs.Grid.{last_corner, grid_admitted, grid_box}
 use Rattle.grid_steps.specs.Slab.{ray_aabb_interval}
 use Rattle.grid_steps.specs.Cells.{ray_cell_indices, next_cell_boundary}
@@ -22,11 +20,10 @@ use Rattle.distance_grid.specs.Valued.{value_of}
 use Rattle.level_set.specs.Hits.{point_at, along, with_sample, hit_with, third, two_thirds, samples_of}
 use Rattle.level_set.specs.Walk.{CellResult, done, goes_on, with_samples, with_boundary, with_cells, follow, cell_limit, with_interval}
 use Rattle.distance_grid.specs.declared.grid.Grid.{Grid}
-use Rattle.distance_grid.specs.declared.places.Located.{Located}
-use Rattle.distance_grid.specs.declared.places.Located.TheVariants.{Refused}
-use Rattle.distance_grid.specs.declared.sampling.Sampled.{Sampled}
-use Rattle.distance_grid.specs.declared.valued.Valued.{Valued}
-use Rattle.level_set.specs.declared.hits.Samples.{Samples}
+use Rattle.distance_grid.specs.Places.{Located, NotLocated as Refused}
+use Rattle.distance_grid.specs.Sampling.{Sampled}
+use Rattle.distance_grid.specs.Valued.{Valued}
+use Rattle.level_set.specs.Hits.{Samples}
 
 -- ---- the sample that refuses
 

@@ -1,14 +1,23 @@
 -- The slab interval of Kay and Kajiya: the distances at which a ray lies in a box, cut by one axis after the other. Definitions only.
 -- Assumes nothing.
-use Rattle.std.specs.Prelude.{cond, Float}
+use Rattle.std.specs.Prelude.{cond, Float, Option, Some, None}
 use Rattle.std.specs.Float.Ieee.{le, lt}
 use Rattle.arithmetic.specs.Basic.{absolute}
 use Rattle.arithmetic.specs.Extremes.{minimum_of, maximum_of}
 use Rattle.vectors.specs.Numbers.{◌-ᶠ◌, ◌/ᶠ◌, zeroᶠ, min_positive}
 use Rattle.geometry.specs.declared.aabb.Aabb.{Aabb}
 use Rattle.geometry.specs.declared.ray.Ray.{Ray}
-use Rattle.grid_steps.specs.declared.interval.Interval.{Interval}
-use Rattle.grid_steps.specs.declared.interval.Interval.TheVariants.{Within, Miss}
+use Rattle.grid_steps.specs.declared.interval.Interval.{Interval as Span}
+
+-- the distances of the ray that lie in the box, or none
+pub data Interval : Type 0 where
+  Within : Float → Float → Interval
+  Miss : Interval
+
+-- what the code's answer says
+abbrev pub says_interval : Option Span → Interval
+says_interval (Some i) = Within i.entry i.exit
+says_interval None = Miss
 
 -- an interval whose entry lies past its exit is empty
 unfoldable pub kept : Float → Float → Interval

@@ -4,3 +4,4 @@ pub mod CellPass
 pub mod ApartCells
 pub mod ListingPass
 pub mod Ranges
+pub mod SignedForms

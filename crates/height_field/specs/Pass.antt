@@ -1,17 +1,17 @@
 -- Inner contracts only: what the code has found part way through the cells: the cast of the listing, cell by cell. Definitions only.
 -- Assumes nothing.
-use Rattle.std.specs.Prelude.{ℕ, zero, suc, ◌+◌, ◌≡◌, Bool, true, false, cond, List, eqb, Float}
+use Rattle.std.specs.Prelude.{ℕ, zero, suc, ◌+◌, ◌≡◌, Bool, true, false, cond, List, eqb, Float, Option, Result, Ok, Err}
 use Rattle.vectors.specs.Vector.{finite_vec, min_of, max_of}
 use Rattle.geometry.specs.Box.{touch_side, touches, corner, corners_box}
 use Rattle.vectors.specs.declared.vec3.Vec3.{Vec3}
 use Rattle.geometry.specs.declared.aabb.Aabb.{Aabb}
 use Rattle.geometry.specs.declared.ray.Ray.{Ray}
-use Rattle.casts.specs.Answer.{Answer, refused}
+use Rattle.casts.specs.Answer.{Answer, refused, number_of}
+use Rattle.casts.specs.declared.answer.Refusal.{Refusal}
 use Rattle.triangle_cast.specs.Triangle.{triangle_cast}
+use Rattle.nearest_hit.specs.declared.nearest.IndexedHit.{IndexedHit}
 use Rattle.nearest_hit.specs.Nearest.{Indexed, hit_at, no_hit, stopped, says_indexed, next_of, gives_way, fold_from, without_index}
 use Rattle.height_field.specs.declared.field.Field.{Field}
-use Rattle.height_field.specs.declared.pass.Pass.{Pass}
-use Rattle.height_field.specs.declared.pass.Pass.TheVariants.{Going, Ended}
 use Rattle.height_field.specs.Grid.{vertex_at}
 use Rattle.height_field.specs.Listing.{Listing, listed, unlisted, grid_listing}
 use Rattle.height_field.specs.Cast.{answer_of}
@@ -21,10 +21,10 @@ pub data Passed : Type 0 where
   going : Indexed → Passed
   ended : ℕ → Passed
 
--- what each case of the code's pass says
-abbrev pub says_pass : Pass → Passed
-says_pass (Going best) = going (says_indexed best)
-says_pass (Ended number) = ended number
+-- what each case of the code's answer says
+abbrev pub says_pass : Result (Result (Option IndexedHit) Refusal) Refusal → Passed
+says_pass (Ok best) = going (says_indexed best)
+says_pass (Err refusal) = ended (number_of refusal)
 
 -- the fold over what is listed, on top of what was found before
 unfoldable pub pass_from : (ℕ → Answer) → Indexed → Listing → Passed

@@ -1,16 +1,15 @@
 ghost use Rattle.std.specs.Prelude.{◌≡◌, true, ◌+◌, ◌<◌};
-ghost use Rattle.height_field.specs.Grid.{Sized};
 ghost use Rattle.height_field.specs.Listing.{all_finite, cell_finite};
 ghost use Rattle.height_field.specs.Pass.{around_cell, cell_touches};
 
-use crate::field;
-use crate::field::Field;
+use crate::grid::Grid;
 use arithmetic::basic;
 use geometry::aabb::Aabb;
 use vectors::vec3::Vec3;
 
 // Whether the sum of all numbers of a cell's vertices is finite: then each of them is. Only a yes is promised to be right: after a no,
 // which a sum that overflows gives too, each vertex is looked at.
+#[tactic(auto, using(crate::proofs::ApartCells::sum_tells))]
 pub fn sum_finite(v00: Vec3, v10: Vec3, v01: Vec3, v11: Vec3) -> bool
     ensures { result ≡ true → all_finite v00 v10 v01 v11 ≡ true }
 {
@@ -30,14 +29,15 @@ fn around_cell(v00: Vec3, v10: Vec3, v01: Vec3, v11: Vec3) -> Aabb
 }
 
 // Whether the box around a cell's vertices touches; where it does not, neither triangle's does.
-pub fn cell_touches(bounds: Aabb, field: Field, heights: &[f64], row: usize, column: usize) -> bool
-    requires { (Sized field heights.now) × ((row + 1 < field.rows) × ((column + 1 < field.columns)
-        × (cell_finite field heights.now row column ≡ true))) }
-    ensures { result ≡ cell_touches field heights.now bounds row column }
+#[tactic(auto, unfolding(crate::specs::Listing::cell_finite, crate::specs::Pass::cell_touches))]
+pub fn cell_touches(bounds: Aabb, grid: Grid<'_>, row: usize, column: usize) -> bool
+    requires { (row + 1 < grid.field.rows) × ((column + 1 < grid.field.columns)
+        × (cell_finite grid.field grid.heights.now row column ≡ true)) }
+    ensures { result ≡ cell_touches grid.entry.field grid.entry.heights.now bounds row column }
 {
-    let v00 = field::field_vertex(field, heights, row, column);
-    let v10 = field::field_vertex(field, heights, row, column + 1);
-    let v01 = field::field_vertex(field, heights, row + 1, column);
-    let v11 = field::field_vertex(field, heights, row + 1, column + 1);
+    let v00 = grid.vertex(row, column);
+    let v10 = grid.vertex(row, column + 1);
+    let v01 = grid.vertex(row + 1, column);
+    let v11 = grid.vertex(row + 1, column + 1);
     around_cell(v00, v10, v01, v11).touches(bounds)
 }

@@ -4,6 +4,8 @@
 
 // Field, the grid without its heights: which are admitted, and the vertices.
 pub mod field;
+// Grid, an admitted grid with its heights.
+pub mod grid;
 // The range of cells that a box covers on one axis.
 pub mod cells;
 // The cells that a box visits.

@@ -1,59 +1,29 @@
 ghost use Rattle.std.specs.Prelude.{◌≡◌};
 ghost use Rattle.nearest_hit.specs.Nearest.{says_indexed};
-ghost use Rattle.height_field.specs.Pass.{is_stopped, nearer_of};
+ghost use Rattle.height_field.specs.Pass.{nearer_of};
 
 use nearest_hit::nearest;
 use nearest_hit::nearest::IndexedCast;
 
-// Whether a triangle refused, after which no answer counts.
-fn is_stopped(best: IndexedCast) -> bool
-    ensures { result ≡ is_stopped (says_indexed best) }
-{
-    match best {
-        IndexedCast::Hit {
-            normal: _,
-            distance: _,
-            index: _,
-        } => {
-            return false;
-        }
-        IndexedCast::None => {
-            return false;
-        }
-        IndexedCast::Refused(_) => {
-            return true;
-        }
-    }
-}
-
 // What was found so far and what one more triangle alone came to. A triangle is asked alone, and not on top of what was found, so that the
 // compiler keeps its hit in registers: else it goes through memory, written in other pairs than it is read, and the reader waits.
+#[tactic(auto, unfolding(crate::specs::Pass::nearer_of, crate::specs::Pass::is_stopped))]
 pub fn nearer(best: IndexedCast, found: IndexedCast) -> IndexedCast
     ensures { says_indexed result ≡ nearer_of (says_indexed best) (says_indexed found) }
 {
     match found {
-        IndexedCast::Hit {
-            normal,
-            distance,
-            index,
-        } => {
-            if nearest::gives_way(best, distance) {
-                return IndexedCast::Hit {
-                    normal: normal,
-                    distance: distance,
-                    index: index,
-                };
+        Ok(Some(hit)) => {
+            if nearest::gives_way(best, hit.distance) {
+                return Ok(Some(hit));
             }
-            return best;
+            best
         }
-        IndexedCast::None => {
-            return best;
-        }
-        IndexedCast::Refused(number) => {
-            if is_stopped(best) {
+        Ok(None) => best,
+        Err(refusal) => {
+            if best.is_err() {
                 return best;
             }
-            return IndexedCast::Refused(number);
+            Err(refusal)
         }
     }
 }

@@ -10,9 +10,10 @@ use Rattle.geometry.specs.declared.aabb.Aabb.{Aabb}
 use Rattle.geometry.specs.declared.ray.Ray.{Ray}
 use Rattle.casts.specs.Answer.{bad_range}
 use Rattle.height_field.specs.declared.field.Field.{Field}
-use Rattle.height_field.specs.declared.visited.Visited.TheVariants.{None as NoCells, Cells as Rectangle}
+use Rattle.std.specs.Prelude.{Some, None}
+use Rattle.height_field.specs.declared.visited.Visited.{Visited}
 use Rattle.height_field.specs.Grid.{Sized}
-use Rattle.height_field.specs.Cells.{grid_cells, visited_cells, visited_range, cells_of}
+use Rattle.height_field.specs.Cells.{range_cells, grid_cells, visited_cells, visited_range, cells_of}
 use Rattle.height_field.specs.Listing.{list_all, grid_listing}
 use Rattle.height_field.proofs.Ranges.{visited_cells_lem, visited_stands}
 use Rattle.height_field.proofs.Sizes.{admitted_sized}
@@ -53,31 +54,35 @@ module _ (f : Field) (lows highs : List Float) (box : Aabb) where
   unfolding visited_answer grid_listing list_all nodes_of every answer_listed
   none_visited e = rw e
 
-  pub outside : visited_range f box ≡ NoCells → visited_answer f lows highs box ≡ clear
+  pub outside : visited_range f box ≡ None → visited_answer f lows highs box ≡ clear
   unfolding cells_of
   outside e = none_visited (visited_cells_lem f box ∙ ap (cells_of f) e)
 
-  module _ (first last left right : ℕ) (visited : visited_range f box ≡ Rectangle first last left right) (some : 2 ≤ f.columns) where
-    visited_is : visited_cells f box ≡ grid_cells f (up_to first last) (up_to left right)
-    unfolding cells_of
+  module _ (cells : Visited) (visited : visited_range f box ≡ Some cells) (some : 2 ≤ f.columns) where
+    visited_is : visited_cells f box ≡ grid_cells f (up_to cells.rows.first cells.rows.last) (up_to cells.columns.first cells.columns.last)
+    unfolding cells_of range_cells
     visited_is = visited_cells_lem f box ∙ ap (cells_of f) visited
 
-    nodes_tell : every (node_in_order lows highs) (nodes_of f (visited_cells f box)) ≡ every (node_in_order lows highs)
-        (grid_nodes f (up_to first (last + 1)) (up_to left (right + 1)))
+    nodes_tell : every (node_in_order lows highs) (nodes_of f (visited_cells f box))
+        ≡ every (node_in_order lows highs)
+        (grid_nodes f (up_to cells.rows.first (cells.rows.last + 1)) (up_to cells.columns.first (cells.columns.last + 1)))
     nodes_tell =
-        let w = visited_stands f box first last left right visited in
+        let w = visited_stands f box cells visited in
         ap (λ (l : List ℕ). every (node_in_order lows highs) (nodes_of f l)) visited_is
-        ∙ rectangle_of_nodes (node_in_order lows highs) f first last left right w.some_rows_lem w.some_columns_lem (omega (arith, w))
+        ∙ rectangle_of_nodes (node_in_order lows highs) f
+        cells.rows.first cells.rows.last cells.columns.first cells.columns.last w.some_rows_lem w.some_columns_lem (omega (arith, w))
 
-    pub out_of_order : every (node_in_order lows highs) (grid_nodes f (up_to first (last + 1)) (up_to left (right + 1))) ≡ false
+    pub out_of_order : every (node_in_order lows highs)
+        (grid_nodes f (up_to cells.rows.first (cells.rows.last + 1)) (up_to cells.columns.first (cells.columns.last + 1))) ≡ false
         → visited_answer f lows highs box ≡ refused bad_range
     unfolding visited_answer
     out_of_order h = rw (nodes_tell ∙ h)
 
     pub ordered_first : (ray : Ray) → box ≡ segment_box ray → Tested ray f lows highs
-        → every (node_in_order lows highs) (grid_nodes f (up_to first (last + 1)) (up_to left (right + 1))) ≡ true
+        → every (node_in_order lows highs)
+        (grid_nodes f (up_to cells.rows.first (cells.rows.last + 1)) (up_to cells.columns.first (cells.columns.last + 1))) ≡ true
         → visited_answer f lows highs box ≡ first_cell (cell_touches f (nearest_heights box.min.z lows highs) box)
-        (grid_cells f (up_to first last) (up_to left right))
+        (grid_cells f (up_to cells.rows.first cells.rows.last) (up_to cells.columns.first cells.columns.last))
     ordered_first ray same t h =
         subst (λ (b : Aabb). every (node_in_order lows highs) (nodes_of f (visited_cells f b)) ≡ true
         → visited_answer f lows highs b ≡ first_cell (cell_touches f (nearest_heights b.min.z lows highs) b) (visited_cells f b))

@@ -10,7 +10,7 @@ use lib.Ieee.{Float}
 use Rattle.geometry.specs.declared.aabb.Aabb.{Aabb}
 use Rattle.height_field.specs.declared.field.Field.{Field}
 use Rattle.height_field.specs.declared.cells.CellRange.{CellRange}
-use Rattle.height_field.specs.declared.cells.CellRange.TheVariants.{Outside, Cells}
+use Rattle.std.specs.Prelude.{Option, Some, None}
 use Rattle.height_field.specs.Grid.{cell_at}
 use Rattle.height_field.specs.Cells.{cell_range, run, range_cells, grid_cells, column_range, row_range, visited_cells}
 use Rattle.height_field.proofs.Ranges.{last_within, no_columns}
@@ -26,12 +26,13 @@ run_bounds first (suc count) n m =
     ⊎_elim (λ e. (omega arith, omega arith)) (λ t. let b = run_bounds (first + 1) count n t in (omega arith, omega arith))
     (Memᴰ.cases_cons m)
 
-range_by : (top n : ℕ) (r : CellRange) → ((first last : ℕ) → r ≡ Cells first last → last ≤ top) → Among n (range_cells r) → n ≤ top
+range_by : (top n : ℕ) (r : Option CellRange) → ((range : CellRange) → r ≡ Some range → range.last ≤ top) → Among n (range_cells r)
+    → n ≤ top
 unfolding range_cells
-range_by top n Outside ends m = absurd (Memᴰ.not-nil m)
-range_by top n (Cells first last) ends m =
-    let b = run_bounds first (last + 1 - first) n m in
-    let within = ends first last refl in
+range_by top n None ends m = absurd (Memᴰ.not-nil m)
+range_by top n (Some range) ends m =
+    let b = run_bounds range.first (range.last + 1 - range.first) n m in
+    let within = ends range refl in
     omega arith
 
 range_within : (low high spacing : Float) (count n : ℕ) → Among n (range_cells (cell_range low high spacing count)) → n ≤ count - 1
@@ -127,12 +128,13 @@ rows_ascend f first (suc count) left width h =
     let d = run_bounds (first + 1) count c.row c.in_rows in
     later f first r.0 c.row c.column x y r.1.1 c.number (omega arith) (h r.0 r.1.0))
 
-ranges_ascend : (f : Field) (rows columns : CellRange) → ((k : ℕ) → Among k (range_cells columns) → k ≤ f.columns - 1)
+ranges_ascend : (f : Field) (rows columns : Option CellRange) → ((k : ℕ) → Among k (range_cells columns) → k ≤ f.columns - 1)
     → Ascends (grid_cells f (range_cells rows) (range_cells columns))
 unfolding range_cells grid_cells
-ranges_ascend f Outside columns h = empty
-ranges_ascend f (Cells first last) Outside h = subst Ascends (sym (no_columns f (run first (last + 1 - first)))) empty
-ranges_ascend f (Cells first last) (Cells left right) h = rows_ascend f first (last + 1 - first) left (right + 1 - left) h
+ranges_ascend f None columns h = empty
+ranges_ascend f (Some rows) None h = subst Ascends (sym (no_columns f (run rows.first (rows.last + 1 - rows.first)))) empty
+ranges_ascend f (Some rows) (Some columns) h =
+    rows_ascend f rows.first (rows.last + 1 - rows.first) columns.first (columns.last + 1 - columns.first) h
 
 -- "row order" is that of the cells' numbers
 pub visited_ascend : (f : Field) (box : Aabb) → Ascends (visited_cells f box)

@@ -13,7 +13,7 @@ use Rattle.mesh.specs.MeshCast.{shape_admitted, tree_fits, room_for}
 use Rattle.mesh.specs.Demand3.{PassesCheck, NearestHit}
 use Rattle.known_answers.proofs.MeshExamples.{odd_passes}
 use Rattle.cabinet.specs.declared.part.Part.{Part}
-use Rattle.cabinet.specs.declared.part.Found.TheVariants.{Nothing}
+use Rattle.cabinet.specs.Found.{Nothing}
 use Rattle.cabinet.specs.Parts.{mesh_of, tree_of_part, ranges_inside, shape_fits, room_fits}
 use Rattle.cabinet.specs.PartCast.{moved_ray}
 use Rattle.cabinet.specs.Cabinet.{Answer, hit_in, none_after, answer_with, all_parts}

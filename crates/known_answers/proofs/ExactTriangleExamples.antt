@@ -1,9 +1,9 @@
 -- Worked examples in a direction askew, computed: a wall that is met at 4 millimetres, one that is passed, and a triangle that the grid has
 -- made flat. Assumes nothing.
+use Rattle.std.specs.Prelude.{Some, None}
 use mathlib.Core.Path.{◌≡◌, refl}
 use mathlib.Core.Bool.{true}
 use lib.IntN.{ℤ, pos, negsuc}
-use Rattle.exact_depth.specs.declared.projection.Depth.TheVariants.{At, Miss}
 use Rattle.exact_depth.specs.FirstPoint.{first_point, by_weights, crossing, kept, coplanar, in_plane}
 use Rattle.exact_depth.specs.FirstPoint.{area}
 use Rattle.exact_depth.specs.declared.projection.Point.{Point}
@@ -32,19 +32,19 @@ point x y z = record { x = x; y = y; z = z }
 -- 4 mm is 131,072 units: t / w with t = 131072 w
 met_at_four : depth_of diagonal (point (pos 131072) (pos 131072) (negsuc 65535)) (point (pos 131072) (pos 131072) (pos 65536))
     (point (pos 196608) (pos 131072) (pos 0))
-    ≡ At (record { t = pos 1393796574908163946345982392040522594123776; w = pos 10633823966279326983230456482242756608 })
+    ≡ Some (record { t = pos 1393796574908163946345982392040522594123776; w = pos 10633823966279326983230456482242756608 })
 unfolding diagonal point depth_of main_of first_point by_weights crossing kept
 met_at_four = refl
 
 passed : depth_of diagonal (point (pos 131072) (pos 131071) (negsuc 65535)) (point (pos 131072) (pos 131071) (pos 65536))
-    (point (pos 196608) (pos 131071) (pos 0)) ≡ Miss
+    (point (pos 196608) (pos 131071) (pos 0)) ≡ None
 unfolding diagonal point depth_of main_of first_point by_weights crossing kept
 passed = refl
 
 -- three corners on one line across the ray: no area
 flat_passed : depth_of diagonal (point (pos 65536) (pos 0) (pos 0)) (point (pos 0) (pos 65536) (pos 0)) (point (pos 131072)
     (negsuc 65535) (pos 0))
-    ≡ Miss
+    ≡ None
 unfolding diagonal point depth_of main_of first_point by_weights crossing coplanar in_plane area kept
 flat_passed = refl
 

@@ -3,19 +3,18 @@
 use mathlib.Core.Path.{◌≡◌, refl, sym, ap, subst, ◌∙◌}
 use mathlib.Core.Bool.{Bool, true, false, false≢true}
 use mathlib.Core.List.{List}
-use Prim.Native.Nat.{ℕ, zero, suc, ◌+◌, ◌≤◌, ◌<◌}
+use Prim.Native.Nat.{ℕ, zero, suc, ◌<◌}
 use native.Mathlib.Omega.{arith}
+use lib.Dec.{lit<}
+use Rattle.std.proofs.Common.{get_or}
 use lib.Ieee.{Float, nan, is_nan, of_bits, div}
 use Rattle.vectors.specs.Numbers.{◌/ᶠ◌, zeroᶠ, oneᶠ}
 use Rattle.geometry.specs.declared.ray.Ray.{Ray}
-use Rattle.level_set.specs.Hits.{along, value_along, samples_of, samples_along, fraction_of, Remembered}
+use Rattle.level_set.specs.Hits.{Samples, All, SamplesRefused, along, value_along, samples_of, samples_along, fraction_of, Remembered}
 use Rattle.level_set.specs.Walk.{Carries, ends, goes, Kept, ended, going}
+use Rattle.distance_grid.specs.Valued.{Valued, ValuedAt as At, NoValue as Refused}
 use Rattle.distance_grid.specs.declared.grid.Grid.{Grid}
-use Rattle.distance_grid.specs.declared.valued.Valued.{Valued}
-use Rattle.distance_grid.specs.declared.valued.Valued.TheVariants.{At, Refused}
 use Rattle.level_set.specs.declared.hits.Known.{Known}
-use Rattle.level_set.specs.declared.hits.Samples.{Samples}
-use Rattle.level_set.specs.declared.hits.Samples.TheVariants.{All, Refused as SamplesRefused}
 use Rattle.level_set.specs.declared.walk.Step.{Step}
 use Rattle.level_set.specs.declared.walk.Step.TheVariants.{On}
 
@@ -34,54 +33,40 @@ pub nothing_remembered : (r : Ray) (g : Grid) (values : List Float) (value : Flo
     { distance = zeroᶠ /ᶠ zeroᶠ; value = value }
 nothing_remembered r g values value = record { holds = λ n. absurd (false≢true (sym n ∙ not_a_number)) }
 
--- ---- the samples taken so far, and those to come
-pub rest : (ℕ → Valued) → ℕ → Float → Float → Float → Float → Samples
-rest v zero a b c d = samples_of (v 0) (v 1) (v 2) (v 3)
-rest v (suc zero) a b c d = samples_of (At d) (v 1) (v 2) (v 3)
-rest v (suc (suc zero)) a b c d = samples_of (At c) (At d) (v 2) (v 3)
-rest v (suc (suc (suc zero))) a b c d = samples_of (At b) (At c) (At d) (v 3)
-rest v (suc (suc (suc (suc n)))) a b c d = All a b c d
+-- ---- the samples taken so far
+module _ (v : ℕ → Valued) (ys : List Float) where
+  -- four values that were taken are all the samples
+  pub all_taken : ((k : ℕ) → k < 4 → v k ≡ At (get_or ys k nan))
+      → All (get_or ys 0 nan) (get_or ys 1 nan) (get_or ys 2 nan) (get_or ys 3 nan) ≡ samples_of (v 0) (v 1) (v 2) (v 3)
+  unfolding samples_of
+  all_taken h = simp (h 0 (lit< tt), h 1 (lit< tt), h 2 (lit< tt), h 3 (lit< tt))
 
-pub rest_taken : (v : ℕ → Valued) (n : ℕ) (a b c d y : Float) → n < 4 → v n ≡ At y → rest v (n + 1) b c d y ≡ rest v n a b c d
-unfolding rest samples_of
-rest_taken v zero a b c d y l e = ap (λ (h : Valued). samples_of h (v 1) (v 2) (v 3)) (sym e)
-rest_taken v (suc zero) a b c d y l e = ap (λ (h : Valued). samples_of (At d) h (v 2) (v 3)) (sym e)
-rest_taken v (suc (suc zero)) a b c d y l e = ap (λ (h : Valued). samples_of (At c) (At d) h (v 3)) (sym e)
-rest_taken v (suc (suc (suc zero))) a b c d y l e = ap (λ (h : Valued). samples_of (At b) (At c) (At d) h) (sym e)
-rest_taken v (suc (suc (suc (suc n)))) a b c d y l e = absurd (omega arith)
-
-pub rest_refused : (v : ℕ → Valued) (n number : ℕ) (a b c d : Float) → n < 4 → v n ≡ Refused number → SamplesRefused number ≡ rest v n a b c
-    d
-unfolding rest samples_of
-rest_refused v zero number a b c d l e = ap (λ (h : Valued). samples_of h (v 1) (v 2) (v 3)) (sym e)
-rest_refused v (suc zero) number a b c d l e = ap (λ (h : Valued). samples_of (At d) h (v 2) (v 3)) (sym e)
-rest_refused v (suc (suc zero)) number a b c d l e = ap (λ (h : Valued). samples_of (At c) (At d) h (v 3)) (sym e)
-rest_refused v (suc (suc (suc zero))) number a b c d l e = ap (λ (h : Valued). samples_of (At b) (At c) (At d) h) (sym e)
-rest_refused v (suc (suc (suc (suc n)))) number a b c d l e = absurd (omega arith)
-
-pub rest_done : (v : ℕ → Valued) (n : ℕ) (a b c d : Float) → 4 ≤ n → All a b c d ≡ rest v n a b c d
-unfolding rest
-rest_done v zero a b c d l = absurd (omega arith)
-rest_done v (suc zero) a b c d l = absurd (omega arith)
-rest_done v (suc (suc zero)) a b c d l = absurd (omega arith)
-rest_done v (suc (suc (suc zero))) a b c d l = absurd (omega arith)
-rest_done v (suc (suc (suc (suc n)))) a b c d l = refl
+  -- a refusal after values that were taken is the first
+  pub first_refused : (n number : ℕ) → n < 4 → ((k : ℕ) → k < n → v k ≡ At (get_or ys k nan)) → v n ≡ Refused number
+      → SamplesRefused number ≡ samples_of (v 0) (v 1) (v 2) (v 3)
+  unfolding samples_of
+  first_refused zero number l h e = simp e
+  first_refused (suc zero) number l h e = simp (h 0 (lit< tt), e)
+  first_refused (suc (suc zero)) number l h e = simp (h 0 (lit< tt), h 1 (lit< tt), e)
+  first_refused (suc (suc (suc zero))) number l h e = simp (h 0 (lit< tt), h 1 (lit< tt), h 2 (lit< tt), e)
+  first_refused (suc (suc (suc (suc n)))) number l h e = absurd (omega arith)
 
 -- a cell's samples, by their numbers
 pub sample_at : Ray → Grid → List Float → Float → Float → ℕ → Valued
 sample_at r g values current end n = value_along r g values (along current end (fraction_of n))
 
-pub sample_found : (r : Ray) (g : Grid) (values : List Float) (current end fraction distance : Float) (n : ℕ) (found given : Valued)
-    → fraction ≡ fraction_of n → distance ≡ along current end fraction → found ≡ value_along r g values distance → found ≡ given
-    → sample_at r g values current end n ≡ given
+pub sample_found : (r : Ray) (g : Grid) (values : List Float) (current end fraction distance : Float) (n : ℕ) (found : Valued)
+    → fraction ≡ fraction_of n → distance ≡ along current end fraction → found ≡ value_along r g values distance
+    → sample_at r g values current end n ≡ found
 unfolding sample_at
-sample_found r g values current end fraction distance n found given f d e h =
-    ap (λ (x : Float). value_along r g values (along current end x)) (sym f) ∙ ap (value_along r g values) (sym d) ∙ sym e ∙ h
+sample_found r g values current end fraction distance n found f d e =
+    ap (λ (x : Float). value_along r g values (along current end x)) (sym f) ∙ ap (value_along r g values) (sym d) ∙ sym e
 
-pub rest_whole : (r : Ray) (g : Grid) (values : List Float) (current end a b c d : Float)
-    → rest (sample_at r g values current end) 0 a b c d ≡ samples_along r g values current end
-unfolding rest sample_at fraction_of samples_along
-rest_whole r g values current end a b c d = refl
+pub samples_by : (r : Ray) (g : Grid) (values : List Float) (current end : Float) (whole : Samples)
+    → whole ≡ samples_of (sample_at r g values current end 0) (sample_at r g values current end 1) (sample_at r g values current end 2)
+    (sample_at r g values current end 3) → whole ≡ samples_along r g values current end
+unfolding sample_at fraction_of samples_along
+samples_by r g values current end whole e = e
 
 pub fraction_last : (n : ℕ) → (n ≡ 0 → ⊥) → (n ≡ 1 → ⊥) → (n ≡ 2 → ⊥) → oneᶠ ≡ fraction_of n
 unfolding fraction_of

@@ -1,22 +1,26 @@
 -- The value and the hit at a distance of the ray. Definitions only. Assumes nothing.
-use Rattle.std.specs.Prelude.{ℕ, zero, suc, false, cond, ◌≡◌, List, Float}
-use Rattle.std.specs.Float.{binary64}
+use Rattle.std.specs.Prelude.{ℕ, zero, suc, false, cond, ◌≡◌, List, Float, get_or, Option, Some, None}
+use Rattle.std.specs.Float.{binary64, nan}
 use Rattle.std.specs.Float.Ieee.{of_bits, eq, is_nan}
 use Rattle.vectors.specs.Numbers.{◌+ᶠ◌, ◌-ᶠ◌, ◌*ᶠ◌, zeroᶠ, oneᶠ}
 use Rattle.vectors.specs.Vector.{add_of, scale_of, try_normalize}
 use Rattle.vectors.specs.declared.vec3.Vec3.{Vec3}
 use Rattle.geometry.specs.declared.ray.Ray.{Ray}
-use Rattle.casts.specs.Answer.{Answer, hit, none, refused, with_normal, not_convergent}
-use Rattle.distance_grid.specs.Sampling.{sample}
-use Rattle.distance_grid.specs.Valued.{value_of}
+use Rattle.casts.specs.Answer.{Answer, hit, none, refused, with_normal, overflow, not_convergent}
+use Rattle.distance_grid.specs.Sampling.{Sampled, SampledAt, SampleRefused, sample}
+use Rattle.distance_grid.specs.Valued.{Valued, ValuedAt, NoValue, value_of}
 use Rattle.distance_grid.specs.declared.grid.Grid.{Grid}
-use Rattle.distance_grid.specs.declared.sampling.Sampled.{Sampled}
-use Rattle.distance_grid.specs.declared.sampling.Sampled.TheVariants.{At as SampledAt, Refused as SampleRefused}
-use Rattle.distance_grid.specs.declared.valued.Valued.{Valued}
-use Rattle.distance_grid.specs.declared.valued.Valued.TheVariants.{At as ValuedAt, Refused as NoValue}
 use Rattle.level_set.specs.declared.hits.Known.{Known}
-use Rattle.level_set.specs.declared.hits.Samples.{Samples}
-use Rattle.level_set.specs.declared.hits.Samples.TheVariants.{All, Refused}
+
+-- the values at 0, 1/3, 2/3 and 1 of the way through a cell, or a refusal's number
+pub data Samples : Type 0 where
+  All : Float → Float → Float → Float → Samples
+  SamplesRefused : ℕ → Samples
+
+-- what the code's answer says: it gives no samples only where a number is not finite
+abbrev pub says_samples : Option (List Float) → Samples
+says_samples (Some ys) = All (get_or ys 0 nan) (get_or ys 1 nan) (get_or ys 2 nan) (get_or ys 3 nan)
+says_samples None = SamplesRefused overflow
 
 unfoldable pub point_at : Ray → Float → Vec3
 point_at r distance = add_of r.origin (scale_of r.direction distance)
@@ -58,10 +62,10 @@ two_thirds = of_bits binary64 0x3fe5_5555_5555_5555
 -- the first that refuses counts
 unfoldable pub samples_of : Valued → Valued → Valued → Valued → Samples
 samples_of (ValuedAt y0) (ValuedAt y1) (ValuedAt y2) (ValuedAt y3) = All y0 y1 y2 y3
-samples_of (ValuedAt y0) (ValuedAt y1) (ValuedAt y2) (NoValue number) = Refused number
-samples_of (ValuedAt y0) (ValuedAt y1) (NoValue number) h3 = Refused number
-samples_of (ValuedAt y0) (NoValue number) h2 h3 = Refused number
-samples_of (NoValue number) h1 h2 h3 = Refused number
+samples_of (ValuedAt y0) (ValuedAt y1) (ValuedAt y2) (NoValue number) = SamplesRefused number
+samples_of (ValuedAt y0) (ValuedAt y1) (NoValue number) h3 = SamplesRefused number
+samples_of (ValuedAt y0) (NoValue number) h2 h3 = SamplesRefused number
+samples_of (NoValue number) h1 h2 h3 = SamplesRefused number
 
 -- "Four samples per cell at 0, 1/3, 2/3, 1"
 unfoldable pub samples_along : Ray → Grid → List Float → Float → Float → Samples

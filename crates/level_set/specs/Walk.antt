@@ -1,5 +1,5 @@
 -- The cast at a distance grid: the walk over its cells, and its refusals. Definitions only. Assumes nothing.
-use Rattle.std.specs.Prelude.{ℕ, zero, suc, ◌+◌, cond, List, [], ◌∷◌, Float, length}
+use Rattle.std.specs.Prelude.{ℕ, zero, suc, ◌+◌, cond, List, [], ◌∷◌, Float, length, Option, Some, None, Result}
 use Rattle.std.specs.Float.Ieee.{lt, le}
 use Rattle.arithmetic.specs.Extremes.{minimum_of}
 use Rattle.geometry.specs.Box.{valid_box}
@@ -7,23 +7,14 @@ use Rattle.geometry.specs.Segment.{ray_admitted}
 use Rattle.geometry.specs.declared.ray.Ray.{Ray}
 use Rattle.casts.specs.Answer.{Answer, none, refused, says, invalid_input, bad_shape, out_of_bounds, overflow, not_convergent}
 use Rattle.distance_grid.specs.Grid.{grid_admitted, grid_box}
-use Rattle.grid_steps.specs.Slab.{ray_aabb_interval}
-use Rattle.grid_steps.specs.Cells.{ray_cell_indices, next_cell_boundary}
-use Rattle.cubic.specs.Roots.{first_cubic_root}
-use Rattle.level_set.specs.Hits.{point_at, along, hit_along, touch_at, samples_along, Remembered}
+use Rattle.grid_steps.specs.Slab.{Interval, Within, Miss, ray_aabb_interval}
+use Rattle.grid_steps.specs.Cells.{Cells, CellsAt, NoCells, ray_cell_indices, next_cell_boundary}
+use Rattle.cubic.specs.Roots.{Root, At as RootAt, None as NoRoot, Overflow as RootOverflow, first_cubic_root}
+use Rattle.level_set.specs.Hits.{Samples, All, SamplesRefused, point_at, along, hit_along, touch_at, samples_along, Remembered}
 use Rattle.distance_grid.specs.declared.grid.Grid.{Grid}
-use Rattle.grid_steps.specs.declared.interval.Interval.{Interval}
-use Rattle.grid_steps.specs.declared.interval.Interval.TheVariants.{Within, Miss}
-use Rattle.grid_steps.specs.declared.cells.Cells.{Cells}
-use Rattle.grid_steps.specs.declared.cells.Cells.TheVariants.{At as CellsAt, Overflow as NoCells}
-use Rattle.grid_steps.specs.declared.cells.Boundary.{Boundary}
-use Rattle.grid_steps.specs.declared.cells.Boundary.TheVariants.{At as BoundaryAt, Overflow as NoBoundary}
-use Rattle.cubic.specs.declared.roots.Root.{Root}
-use Rattle.cubic.specs.declared.roots.Root.TheVariants.{At as RootAt, None as NoRoot, Overflow as RootOverflow}
-use Rattle.casts.specs.declared.answer.Cast.{Cast}
+use Rattle.casts.specs.declared.answer.Hit.{Hit}
+use Rattle.casts.specs.declared.answer.Refusal.{Refusal}
 use Rattle.level_set.specs.declared.hits.Known.{Known}
-use Rattle.level_set.specs.declared.hits.Samples.{Samples}
-use Rattle.level_set.specs.declared.hits.Samples.TheVariants.{All, Refused as SamplesRefused}
 use Rattle.level_set.specs.declared.walk.Step.{Step}
 use Rattle.level_set.specs.declared.walk.Step.TheVariants.{Done, On}
 
@@ -38,12 +29,12 @@ tells (On distance known) = on distance
 
 -- a step that goes on takes this value along
 pub data Carries (known : Known) : Step → Type 0 where
-  ends : {cast : Cast} → Carries known (Done cast)
+  ends : {cast : Result (Option Hit) Refusal} → Carries known (Done cast)
   goes : {next : Float} → Carries known (On next known)
 
 -- and what it takes along is true
 pub data Kept (r : Ray) (g : Grid) (values : List Float) : Step → Type 0 where
-  ended : {cast : Cast} → Kept r g values (Done cast)
+  ended : {cast : Result (Option Hit) Refusal} → Kept r g values (Done cast)
   going : {next : Float} {known : Known} → Remembered r g values known → Kept r g values (On next known)
 
 -- ---- one cell
@@ -71,9 +62,9 @@ unfoldable pub goes_to : Ray → Grid → List Float → Float → Float → Flo
 goes_to r g values current exit next =
     cond (le next current) (done (touch_at r g values current)) (cell_cast r g values current (minimum_of next exit) exit)
 
-abbrev pub with_boundary : Boundary → (Float → CellResult) → CellResult
-with_boundary (BoundaryAt next) k = k next
-with_boundary NoBoundary k = done (refused overflow)
+abbrev pub with_boundary : Option Float → (Float → CellResult) → CellResult
+with_boundary (Some next) k = k next
+with_boundary None k = done (refused overflow)
 
 abbrev pub with_cells : Cells → (ℕ → ℕ → ℕ → CellResult) → CellResult
 with_cells (CellsAt x y z) k = k x y z

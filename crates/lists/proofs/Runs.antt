@@ -1,12 +1,12 @@
 -- Runs of stores: one after another, in any order where they do not meet, over the front of an area, and one store a turn from the front.
 -- Assumes nothing.
 use mathlib.Core.Path.{◌≡◌, refl, sym, ap, ◌∙◌}
-use mathlib.Core.List.{List, [], ◌∷◌, ◌++◌, append-nil}
+use mathlib.Core.List.{List, [], ◌∷◌, ◌++◌}
 use Prim.Native.Nat.{ℕ, zero, suc, ◌+◌, ◌<◌, ◌≤◌}
 use native.Mathlib.Nat.{add-zero, zero-add}
 use native.Mathlib.Omega.{arith}
 use native.Mathlib.Numerals.{add-one}
-use lib.ListN.{length, get_or, set, drop, drop_of_length-le, replicate, replicate-append-replicate}
+use lib.ListN.{length, get_or, set, drop}
 use lib.Seq.{sets, sets-eq, set_comm, set_at, append_snoc, drop-cons}
 use Rattle.lists.specs.Lists.{range}
 
@@ -44,12 +44,6 @@ module _ {A : Type 0} where
   stored_after done rest i v z e h =
       rw (add-one, drop-cons rest i z) (set_at done (get_or rest i z) (drop (suc i) rest) v i e ∙ sym (append_snoc done v (drop (suc i)
       rest)))
-
-  pub stored_all : (done rest : List A) (i : ℕ) → length rest ≤ i → done ++ drop i rest ≡ done
-  stored_all done rest i h = ap (λ (z : List A). done ++ z) (drop_of_length-le rest {i = i} h) ∙ append-nil done
-
-  pub replicate_next : (n : ℕ) (v : A) → replicate n v ++ (v ∷ []) ≡ replicate (n + 1) v
-  replicate_next n v = replicate-append-replicate n 1 v
 
 pub range_next : (start n : ℕ) → range start n ++ ((start + n) ∷ []) ≡ range start (n + 1)
 unfolding range

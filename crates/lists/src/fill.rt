@@ -1,26 +1,19 @@
 ghost use Rattle.std.specs.Prelude.{◌≡◌, ◌<◌, ◌≤◌, length, replicate};
 ghost use Rattle.lists.specs.Lists.{range, over, zero_number};
 
-// Zeros in every place.
+// Zeros in every place. This and `zero_words` are each one call of the library's generic `fill`, and a generic function of both would be
+// that call again.
 pub fn zero_numbers(area: &mut [f64])
     ensures { area.new ≡ replicate (length area.old) zero_number }
 {
-    let mut i = 0;
-    while i < area.len() {
-        area[i] = 0.0;
-        i += 1;
-    }
+    area.fill(0.0);
 }
 
 // Zeros in every place.
 pub fn zero_words(area: &mut [u32])
     ensures { area.new ≡ replicate (length area.old) 0 }
 {
-    let mut i = 0;
-    while i < area.len() {
-        area[i] = 0;
-        i += 1;
-    }
+    area.fill(0);
 }
 
 // 0, 1, 2, ..: each is a u32, which each caller shows.
@@ -28,10 +21,8 @@ pub fn number(area: &mut [u32])
     requires { length area.old < 4294967296 }
     ensures { area.new ≡ range 0 (length area.old) }
 {
-    let mut i = 0;
-    while i < area.len() {
-        area[i] = i as u32;
-        i += 1;
+    for (i, place) in area.iter_mut().enumerate() {
+        *place = i as u32;
     }
 }
 
@@ -40,9 +31,5 @@ pub fn copy(from: &[u32], to: &mut [u32])
     requires { length from.now ≤ length to.old }
     ensures { to.new ≡ over from.now to.old }
 {
-    let mut i = 0;
-    while i < from.len() {
-        to[i] = from[i];
-        i += 1;
-    }
+    to[..from.len()].copy_from_slice(from);
 }

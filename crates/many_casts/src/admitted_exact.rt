@@ -1,70 +1,16 @@
-ghost use Rattle.std.specs.Prelude.{◌≡◌, ◌+◌, ◌<◌, true, ◌&&◌, leb, length};
-ghost use Rattle.geometry.specs.Segment.{ray_admitted};
+ghost use Rattle.std.specs.Prelude.{◌≡◌, ◌+◌, ◌&&◌, leb, length};
 ghost use Rattle.nearest_hit.specs.Nearest.{says_indexed};
 ghost use Rattle.tree.specs.Mesh.{thirds, mesh};
 ghost use Rattle.tree.specs.Layout.{tree_of};
 ghost use Rattle.tree_query.specs.Query.{tree_fits};
-ghost use Rattle.exact_triangle.specs.Grid.{grid_admitted};
-ghost use Rattle.tree_exact.specs.ExactMesh.{exact_through};
-ghost use Rattle.tree_exact.specs.Walking.{WalkRoom};
 ghost use Rattle.many_casts.specs.Many.{exact_answer};
 ghost use Rattle.many_casts.specs.Ready.{Ready};
 
-use casts::answer;
-use exact_triangle::{cast as triangle, view};
+use casts::answer::Refusal;
+use exact_triangle::view;
 use geometry::ray::Ray;
-use mesh_exact::bounds;
 use nearest_hit::nearest::IndexedCast;
-use nearest_hit::summary::Outcome;
-use nearest_hit::{nearest, summary};
-use tree::mesh as triangle_mesh;
-use tree_exact::walk::Walked;
-use tree_exact::{root, walk};
-
-// A copy of the exact cast's own function, so that each of both is compiled into its one caller.
-// The cast once refusals 1, 12 of the ray and 2 to 4 have let it pass, as its caller, the public call, shows; the stack may hold anything
-// afterwards. Only the winner's normal is computed. A ray far off the mesh is answered at the root's box.
-fn exact_through(
-    ray: Ray,
-    triangles: &[u32],
-    pose: &[f64],
-    nodes: usize,
-    node_boxes: &[f64],
-    triangle_boxes: &[f64],
-    node_words: &[u32],
-    order: &[u32],
-    stack: &mut [u32],
-) -> IndexedCast
-    requires { ((ray_admitted ray ≡ true) × (grid_admitted ray ≡ true)) × (WalkRoom (thirds (length triangles.now)) nodes
-        node_boxes.now node_words.now order.now × (nodes < length stack.old)) }
-    ensures { says_indexed result ≡ exact_through ray pose.now triangles.now
-        (tree_of nodes node_boxes.now triangle_boxes.now node_words.now order.now) }
-{
-    let reach = bounds::segment_box(ray);
-    if root::misses_root(reach, nodes, node_boxes) {
-        return IndexedCast::None;
-    }
-    let walked = walk::nearest_along(
-        ray, reach, pose, triangles, nodes, node_boxes, node_words, order, stack,
-    );
-    let Walked::Ended(notes) = walked else {
-        return IndexedCast::Refused(answer::OUT_OF_BOUNDS);
-    };
-    let winner = summary::winner(notes);
-    match winner {
-        Outcome::Nobody => {
-            return IndexedCast::None;
-        }
-        Outcome::Refused(number) => {
-            return IndexedCast::Refused(number);
-        }
-        Outcome::NearestHit { index, distance } => {
-            let corners = triangle_mesh::corners_of(pose, triangles, index as usize);
-            let hit = triangle::hit_on(ray, corners, distance);
-            return nearest::next(IndexedCast::None, index, hit);
-        }
-    }
-}
+use tree_exact::cast;
 
 // The exact cast of one ray, where the mesh, its tree and the areas have passed refusals 2 to 4.
 pub fn cast_ray(
@@ -89,12 +35,12 @@ pub fn cast_ray(
         (length stack.old) ray }
 {
     if !ray.validate() {
-        return IndexedCast::Refused(answer::INVALID_INPUT);
+        return Err(Refusal::InvalidInput);
     }
     if !view::admitted(ray) {
-        return IndexedCast::Refused(answer::OUT_OF_RANGE);
+        return Err(Refusal::OutOfRange);
     }
-    exact_through(
+    cast::exact_through(
         ray,
         triangles,
         pose,

@@ -6,11 +6,12 @@ ghost use Rattle.many_casts.specs.Many.{ray_at, places, answer_at, answers_of, e
 ghost use Rattle.many_casts.specs.Ready.{Ready};
 
 use crate::{admitted_exact, places};
-use casts::answer;
+use casts::answer::Refusal;
 use mesh::cast;
 use tree_exact::cast as exact_cast;
 
 // One ray's cast, its answer at its places.
+// `at_mesh` has the same shape with a list beside the stack and another promise: a function over both would carry both contracts.
 fn cast_at(
     index: usize,
     rays: &[f64],
@@ -86,8 +87,7 @@ fn cast_each(
         (length stack.old)) rays.now count
         (places codes.old hits.old indices.old) }
 {
-    let mut i: usize = 0;
-    while i < count {
+    for i in 0..count {
         cast_at(
             i,
             rays,
@@ -104,7 +104,6 @@ fn cast_each(
             hits,
             indices,
         );
-        i += 1;
     }
 }
 
@@ -133,10 +132,10 @@ pub fn ray_mesh_exact_many(
         (returned_many result (places codes.new hits.new indices.new)) }
 {
     if rays.len() % 8 != 0 {
-        return answer::BAD_SHAPE;
+        return Refusal::BadShape.into();
     }
     if !cast::shape_admitted(vertices.len(), triangles.len(), pose.len(), nodes) {
-        return answer::BAD_SHAPE;
+        return Refusal::BadShape.into();
     }
     if !exact_cast::room_fits(
         triangles.len() / 3,
@@ -147,14 +146,14 @@ pub fn ray_mesh_exact_many(
         order,
         stack.len(),
     ) {
-        return answer::NO_ROOM;
+        return Refusal::NoRoom.into();
     }
     let count = rays.len() / 8;
     if !places::places_fit(count, codes.len(), hits.len(), indices.len()) {
-        return answer::NO_ROOM;
+        return Refusal::NoRoom.into();
     }
     if pose.len() != vertices.len() {
-        return answer::WRONG_POSE;
+        return Refusal::WrongPose.into();
     }
     cast_each(
         count,

@@ -6,7 +6,7 @@ ghost use Rattle.many_casts.specs.Many.{ray_at, places, answer_at, answers_of, m
 ghost use Rattle.many_casts.specs.Ready.{Ready};
 
 use crate::{admitted, places};
-use casts::answer;
+use casts::answer::Refusal;
 use mesh::cast;
 use tree_query::query;
 
@@ -89,8 +89,7 @@ fn cast_each(
         (length list.old) (length stack.old)) rays.now count
         (places codes.old hits.old indices.old) }
 {
-    let mut i: usize = 0;
-    while i < count {
+    for i in 0..count {
         cast_at(
             i,
             rays,
@@ -108,7 +107,6 @@ fn cast_each(
             hits,
             indices,
         );
-        i += 1;
     }
 }
 
@@ -138,10 +136,10 @@ pub fn ray_mesh_many(
         (returned_many result (places codes.new hits.new indices.new)) }
 {
     if rays.len() % 8 != 0 {
-        return answer::BAD_SHAPE;
+        return Refusal::BadShape.into();
     }
     if !cast::shape_admitted(vertices.len(), triangles.len(), pose.len(), nodes) {
-        return answer::BAD_SHAPE;
+        return Refusal::BadShape.into();
     }
     if !query::walk_fits(
         triangles.len() / 3,
@@ -153,14 +151,14 @@ pub fn ray_mesh_many(
         list.len(),
         stack.len(),
     ) {
-        return answer::NO_ROOM;
+        return Refusal::NoRoom.into();
     }
     let count = rays.len() / 8;
     if !places::places_fit(count, codes.len(), hits.len(), indices.len()) {
-        return answer::NO_ROOM;
+        return Refusal::NoRoom.into();
     }
     if pose.len() != vertices.len() {
-        return answer::WRONG_POSE;
+        return Refusal::WrongPose.into();
     }
     cast_each(
         count,

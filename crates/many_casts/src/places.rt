@@ -35,6 +35,7 @@ pub fn places_fit(count: usize, codes: usize, hits: usize, indices: usize) -> bo
 }
 
 // An answer at its ray's places.
+#[tactic(auto, unfolding(crate::specs::Many::answer_at))]
 pub fn put_at(
     answer: IndexedCast,
     index: usize,
@@ -47,24 +48,20 @@ pub fn put_at(
         ≡ answer_at (says_indexed answer) index (places codes.old hits.old indices.old) }
 {
     match answer {
-        IndexedCast::Hit {
-            normal,
-            distance,
-            index: triangle,
-        } => {
+        Ok(Some(hit)) => {
             let place = 4 * index;
             codes[index] = results::HIT;
-            hits[place] = normal.x;
-            hits[place + 1] = normal.y;
-            hits[place + 2] = normal.z;
-            hits[place + 3] = distance;
-            indices[index] = triangle;
+            hits[place] = hit.normal.x;
+            hits[place + 1] = hit.normal.y;
+            hits[place + 2] = hit.normal.z;
+            hits[place + 3] = hit.distance;
+            indices[index] = hit.index;
         }
-        IndexedCast::None => {
+        Ok(None) => {
             codes[index] = results::NONE;
         }
-        IndexedCast::Refused(number) => {
-            codes[index] = number;
+        Err(refusal) => {
+            codes[index] = refusal.into();
         }
     }
 }

@@ -4,7 +4,7 @@ ghost use Rattle.tree.specs.Layout.{tree_of};
 ghost use Rattle.many_drills.specs.Many.{ray_at, radius_at, places, answer_at, answers_of, tree_answer, returned_many, ManyCall};
 
 use crate::places;
-use casts::answer;
+use casts::answer::Refusal;
 use mesh::cast;
 use mesh_drill::through;
 use tree_query::query;
@@ -74,8 +74,7 @@ fn drill_each(
         (length list.old) (length stack.old)) drills.now count
         (places codes.old indices.old) }
 {
-    let mut i: usize = 0;
-    while i < count {
+    for i in 0..count {
         drill_at(
             i,
             drills,
@@ -91,7 +90,6 @@ fn drill_each(
             codes,
             indices,
         );
-        i += 1;
     }
 }
 
@@ -119,10 +117,10 @@ pub fn drill_many(
         (returned_many result (places codes.new indices.new)) }
 {
     if drills.len() % 9 != 0 {
-        return answer::BAD_SHAPE;
+        return Refusal::BadShape.into();
     }
     if !cast::shape_admitted(vertices.len(), triangles.len(), vertices.len(), nodes) {
-        return answer::BAD_SHAPE;
+        return Refusal::BadShape.into();
     }
     if !query::walk_fits(
         triangles.len() / 3,
@@ -134,11 +132,11 @@ pub fn drill_many(
         list.len(),
         stack.len(),
     ) {
-        return answer::NO_ROOM;
+        return Refusal::NoRoom.into();
     }
     let count = drills.len() / 9;
     if !places::places_fit(count, codes.len(), indices.len()) {
-        return answer::NO_ROOM;
+        return Refusal::NoRoom.into();
     }
     drill_each(
         count,

@@ -21,6 +21,7 @@ pub fn ray_at(drills: &[f64], index: usize) -> Ray
 }
 
 // Its radius.
+#[tactic(auto, unfolding(crate::specs::Many::radius_at))]
 pub fn radius_at(drills: &[f64], index: usize) -> f64
     requires { 9 * index + 9 ≤ length drills.now }
     ensures { result ≡ radius_at drills.now index }
@@ -39,21 +40,22 @@ pub fn places_fit(count: usize, codes: usize, indices: usize) -> bool
 }
 
 // An answer at its drill's places.
+#[tactic(auto, unfolding(crate::specs::Many::answer_at))]
 pub fn put_at(answer: DrillCast, index: usize, codes: &mut [u32], indices: &mut [u32])
     requires { (index < length codes.old) × (index < length indices.old) }
     ensures { places codes.new indices.new
         ≡ answer_at (says_drill answer) index (places codes.old indices.old) }
 {
     match answer {
-        DrillCast::Clear => {
+        Ok(None) => {
             codes[index] = results::NONE;
         }
-        DrillCast::Touched(triangle) => {
+        Ok(Some(triangle)) => {
             codes[index] = results::HIT;
             indices[index] = triangle;
         }
-        DrillCast::Refused(number) => {
-            codes[index] = number;
+        Err(refusal) => {
+            codes[index] = refusal.into();
         }
     }
 }

@@ -5,20 +5,17 @@ ghost use Rattle.many_drills.specs.Returned.{returned_drill};
 use mesh_drill::answer::DrillCast;
 
 // A drill's answer as its number, the index of a triangle that is touched written.
+#[tactic(auto, unfolding(crate::specs::Returned::returned_drill))]
 pub fn put_drill(answer: DrillCast, index: &mut [u32]) -> u32
     requires { 1 ≤ length index.old }
     ensures { record { number = result; index = index.new } ≡ returned_drill (says_drill answer) index.old }
 {
     match answer {
-        DrillCast::Clear => {
-            return results::NONE;
-        }
-        DrillCast::Touched(triangle) => {
+        Ok(None) => results::NONE,
+        Ok(Some(triangle)) => {
             index[0] = triangle;
-            return results::HIT;
+            results::HIT
         }
-        DrillCast::Refused(number) => {
-            return number;
-        }
+        Err(refusal) => refusal.into(),
     }
 }

@@ -9,7 +9,11 @@ use borrow.Author.Tests.{leb-true, leb-false, le-leb, lt-leb}
 use Rattle.tree.specs.Layout.{Tree}
 use Rattle.tree.specs.Mesh.{Mesh, thirds, lengths_admitted}
 use Rattle.tree_check.specs.Check.{tree_passes}
-use Rattle.tree_check.specs.Verdict.{Ruling, yes, no, refused, room_for, check_of}
+use Rattle.tree_check.specs.Verdict.{Ruling, yes, no, refused, says, room_for, check_of}
+use Rattle.std.specs.Result.{result_unwrap_or}
+use Rattle.std.specs.Prelude.{Result, Ok, Err}
+use Rattle.casts.specs.Answer.{number_of}
+use Rattle.casts.specs.declared.answer.Refusal.{Refusal}
 
 pub rest_admitted : (k v w : ℕ) → v ≤ k → leb w (k - v) ≡ leb (v + w) k
 rest_admitted k v w h = go (leb w (k - v)) refl
@@ -52,3 +56,9 @@ module _ (m : Mesh) (t : Tree) (marks : ℕ) (admitted : lengths_admitted (lengt
 
   pub not_refused : (r : Ruling) → r ≡ check_of m t marks → (k : ℕ) → r ≡ refused k → ⊥
   not_refused r e = (told (tree_passes m t) r (e ∙ check_is)).1.1
+
+  -- the check's own answer: no where it refuses, which it does not
+  pub answer_told : (v : Result Bool Refusal) → says v ≡ check_of m t marks → result_unwrap_or v false ≡ tree_passes m t
+  answer_told (Ok true) e = told_yes yes e refl
+  answer_told (Ok false) e = told_no no e refl
+  answer_told (Err refusal) e = absurd (not_refused (refused (number_of refusal)) e (number_of refusal) refl)

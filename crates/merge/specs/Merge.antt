@@ -1,15 +1,15 @@
 -- M-105's merge: the answer, and what the result areas hold after it. Definitions only. Assumes nothing.
-use Rattle.std.specs.Prelude.{ℕ, ◌+◌, ◌*◌, ◌%◌, Bool, ◌&&◌, ◌||◌, cond, List, [], ◌∷◌, ◌++◌, leb, eqb, Float, length, take}
+use Rattle.std.specs.Prelude.{ℕ, ◌+◌, ◌*◌, ◌%◌, Bool, ◌&&◌, ◌||◌, cond, List, [], ◌∷◌, ◌++◌, leb, eqb, Float, length, take, Result, Ok, Err}
 use Rattle.geometry.specs.Box.{union_of}
-use Rattle.casts.specs.Answer.{bad_shape, no_room, out_of_bounds}
+use Rattle.casts.specs.Answer.{bad_shape, no_room, out_of_bounds, number_of}
 use Rattle.tree.specs.Layout.{Tree, box_at, box_numbers}
 use Rattle.tree.specs.Mesh.{Mesh, thirds}
 use Rattle.lists.specs.Lists.{over}
 use Rattle.tree_check.specs.Check.{tree_passes}
 unfoldable pub use Rattle.tree_query.specs.Query.{tree_fits}
 use Rattle.tree_copy.specs.Moved.{moved_up, moved_nodes}
-use Rattle.merge.specs.declared.merged.Merged.{Merged}
-use Rattle.merge.specs.declared.merged.Merged.TheVariants.{Nodes, Refused}
+use Rattle.casts.specs.declared.answer.Refusal.{Refusal}
+use Rattle.merge.specs.declared.board.Board.{Board as LentBoard}
 
 -- the node count of the result, or a refusal's number
 pub data Answer : Type 0 where
@@ -17,9 +17,9 @@ pub data Answer : Type 0 where
   refused : ℕ → Answer
 
 -- what each case of the code's answer says
-abbrev pub says : Merged → Answer
-says (Nodes count) = nodes count
-says (Refused number) = refused number
+abbrev pub says : Result ℕ Refusal → Answer
+says (Ok count) = nodes count
+says (Err refusal) = refused (number_of refusal)
 
 -- a board: a mesh and a tree
 pub record Board : Type 0 where
@@ -51,6 +51,11 @@ board_of vertices triangles count node_boxes triangle_boxes node_words order = r
   mesh = record { vertices = vertices; triangles = triangles };
   tree = record { node_count = count; node_boxes = node_boxes; triangle_boxes = triangle_boxes; node_words = node_words; order = order };
 }
+
+-- the same of a board that is lent
+abbrev pub says_board : LentBoard → Board
+says_board b =
+    board_of b.vertices.now b.triangles.now b.nodes b.node_boxes.now b.triangle_boxes.now b.node_words.now b.order.now
 
 abbrev pub areas_of : List Float → List ℕ → List Float → List Float → List ℕ → List ℕ → Areas
 areas_of vertices triangles node_boxes triangle_boxes node_words order =

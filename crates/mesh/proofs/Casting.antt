@@ -23,8 +23,7 @@ use Rattle.tree.specs.Mesh.{Mesh, thirds, lengths_admitted, triangle_answer}
 use Rattle.lists.proofs.JoinedTests.{and_first, and_second}
 use Rattle.tree_walk.specs.Walk.{walking, broken, ended, walk_of}
 use Rattle.tree_walk.specs.Areas.{listed, Grown, GrownTo}
-use Rattle.tree_walk.specs.declared.step.Filled.{Filled}
-use Rattle.tree_walk.specs.declared.step.Filled.TheVariants.{Count, Broken}
+use Rattle.std.specs.Prelude.{Option, Some, None}
 use Rattle.tree_query.specs.Query.{walk_fits}
 use Rattle.lists.proofs.RefusalLaws as Refusals
 use Rattle.mesh.specs.MeshCast.{shape_admitted, room_for, mesh_tests, tests_pass, over_walk, mesh_cast, ray_mesh}
@@ -60,7 +59,7 @@ module _ (r : Ray) (m : Mesh) (pose : List Float) (t : Tree) where
   unfolding mesh_cast
   cast_overflow h = simp h
 
-  module _ (v : ray_admitted r ≡ true) (f : finite_vec (segment_end r) ≡ true) (box : Aabb) (b : box ≡ segment_box r) (x : Filled)
+  module _ (v : ray_admitted r ≡ true) (f : finite_vec (segment_end r) ≡ true) (box : Aabb) (b : box ≡ segment_box r) (x : Option ℕ)
       (exit : List ℕ)
       (w : ended t n box (listed [] x exit) ≡ walk_of t n box) where
     -- both ends are finite
@@ -71,30 +70,30 @@ module _ (r : Ray) (m : Mesh) (pose : List Float) (t : Tree) where
     unfolding mesh_cast
     over = simp (f, sym b, valid)
 
-    pub cast_broken : x ≡ Broken → stopped out_of_bounds ≡ mesh_cast r m pose t
+    pub cast_broken : x ≡ None → stopped out_of_bounds ≡ mesh_cast r m pose t
     unfolding over_walk ended
     cast_broken e =
-        let w' : broken ≡ walk_of t n box = subst (λ (y : Filled). ended t n box (listed [] y exit) ≡ walk_of t n box) e w in
+        let w' : broken ≡ walk_of t n box = subst (λ (y : Option ℕ). ended t n box (listed [] y exit) ≡ walk_of t n box) e w in
         ap (over_walk r pose m.triangles) w' ∙ over
 
-    pub cast_nearest : (k : ℕ) (answer : Indexed) → x ≡ Count k → answer ≡ nearest_of (triangle_answer r pose m.triangles)
+    pub cast_nearest : (k : ℕ) (answer : Indexed) → x ≡ Some k → answer ≡ nearest_of (triangle_answer r pose m.triangles)
         (sorted (take k exit)) → answer ≡ mesh_cast r m pose t
     unfolding over_walk ended
     cast_nearest k answer e a =
         let w' : walking [] (sorted (take k exit)) ≡ walk_of t n box = subst
-        (λ (y : Filled). ended t n box (listed [] y exit) ≡ walk_of t n box) e w in
+        (λ (y : Option ℕ). ended t n box (listed [] y exit) ≡ walk_of t n box) e w in
         a ∙ ap (over_walk r pose m.triangles) w' ∙ over
 
     -- nothing is listed
-    pub cast_empty : (k : ℕ) → x ≡ Count k → k ≡ 0 → no_hit ≡ mesh_cast r m pose t
+    pub cast_empty : (k : ℕ) → x ≡ Some k → k ≡ 0 → no_hit ≡ mesh_cast r m pose t
     unfolding fold_from sort_by
     cast_empty k e z = cast_nearest k no_hit e (rw z)
 
 -- the walk's list is within its area and below the triangle count
-pub list_inside : (n k : ℕ) (entry exit : List ℕ) (x : Filled) → GrownTo n entry 0 x exit → x ≡ Count k → (k ≤ length exit) ×
+pub list_inside : (n k : ℕ) (entry exit : List ℕ) (x : Option ℕ) → GrownTo n entry 0 x exit → x ≡ Some k → (k ≤ length exit) ×
     (all_below n (take k exit) ≡ true)
 list_inside n k entry exit x g e =
-    let g' : Grown n entry exit 0 k = subst (λ (y : Filled). GrownTo n entry 0 y exit) e g in
+    let g' : Grown n entry exit 0 k = subst (λ (y : Option ℕ). GrownTo n entry 0 y exit) e g in
     (g'.inside, g'.below)
 
 -- refusals 1 to 4, in their order

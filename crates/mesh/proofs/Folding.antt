@@ -14,12 +14,9 @@ use lib.ListN.{length, get_or, take, drop, drop_of_length-le}
 use lib.Seq.{drop-cons, get_or-take, length-take-le}
 use Rattle.casts.specs.Answer.{Answer}
 use Rattle.nearest_hit.specs.Nearest.{Indexed, no_hit, stopped, next_of, nearest_of}
-use Rattle.casts.specs.Reach.{reach_of}
+use Rattle.casts.specs.Reach.{Reach, At, reach_of}
 use Rattle.nearest_hit.specs.Summary.{Summary, nothing, note_of, summary_from, winner, answer_at}
-use Rattle.casts.specs.declared.answer.Reach.{Reach}
-use Rattle.casts.specs.declared.answer.Reach.TheVariants.{At}
-use Rattle.nearest_hit.specs.declared.summary.Outcome.{Outcome}
-use Rattle.nearest_hit.specs.declared.summary.Outcome.TheVariants.{Nobody, Refused, NearestHit}
+use Rattle.nearest_hit.specs.Summary.{Outcome, Nobody, RefusedBy, NearestHit}
 use Rattle.lists.proofs.Members.{Each, each_cons}
 use Rattle.casts.proofs.AnswerLists.{HitsAreNumbers}
 use Rattle.nearest_hit.proofs.SummaryOrder.{Reordered, unchanged, exchanged, behind, through}
@@ -30,7 +27,7 @@ use Rattle.lists.proofs.JoinedTests.{and_first, and_second}
 use Rattle.lists.proofs.SortLaws.{sorted_rises}
 
 -- a number of a list whose numbers are all below a bound
-every_at : (n i : ℕ) (xs : List ℕ) → all_below n xs ≡ true → i < length xs → get_or xs i 0 < n
+pub every_at : (n i : ℕ) (xs : List ℕ) → all_below n xs ≡ true → i < length xs → get_or xs i 0 < n
 unfolding every
 every_at n i [] a h = absurd (omega arith)
 every_at n zero (x ∷ xs) a h = ltb-true x n (and_first (ltb x n) (all_below n xs) a)
@@ -44,6 +41,13 @@ listed_below list found inside n i a h =
     let l : length (take found list) ≡ found = length-take-le found list inside in
     let k : i < length (take found list) = omega arith in
     rw (get_or-take found list i 0 h) at (every_at n i (take found list) a k)
+
+-- a number of a list's first places
+pub taken_at : (list : List ℕ) (found i : ℕ) → found ≤ length list → i < length (take found list)
+    → (i < found) × (get_or (take found list) i 0 ≡ get_or list i 0)
+taken_at list found i inside h =
+    let below : i < found = omega (arith, length-take-le found list inside) in
+    (below, get_or-take found list i 0 below)
 
 each_below : (n : ℕ) (l : List ℕ) → all_below n l ≡ true → Each (λ (i : ℕ). i < n) l
 unfolding every
@@ -110,7 +114,7 @@ module _ (answer : ℕ → Answer) (numbers : HitsAreNumbers answer) (l : List �
   unfolding answer_at
   nobody_wins e = ap (answer_at answer) (sym e) ∙ nearest
 
-  pub refusal_wins : (number : ℕ) → outcome ≡ Refused number → stopped number ≡ nearest_of answer (sorted l)
+  pub refusal_wins : (number : ℕ) → outcome ≡ RefusedBy number → stopped number ≡ nearest_of answer (sorted l)
   unfolding answer_at
   refusal_wins number e = ap (answer_at answer) (sym e) ∙ nearest
 

@@ -1,52 +1,32 @@
 ghost use Rattle.std.specs.Prelude.{◌≡◌, true, ◌+◌, ◌*◌, ◌≤◌, length, take};
-ghost use Rattle.geometry.specs.Box.{corner};
-ghost use Rattle.vectors.specs.Vector.{sub_of};
-ghost use Rattle.casts.specs.Answer.{says};
-ghost use Rattle.casts.specs.Reach.{reach_of};
+ghost use Rattle.casts.specs.Reach.{says_reach, reach_of};
 ghost use Rattle.nearest_hit.specs.Nearest.{says_indexed, nearest_of};
 ghost use Rattle.nearest_hit.specs.Summary.{nothing, summary_from, says_nearest_so_far};
-ghost use Rattle.triangle_cast.specs.Triangle.{triangle_normal};
 ghost use Rattle.lists.specs.Lists.{sorted, all_below};
 ghost use Rattle.tree.specs.Mesh.{thirds, triangle_answer};
 
-use casts::answer;
-use casts::answer::{Cast, Reach};
+use casts::answer::{Reach, Refusal};
 use geometry::ray::Ray;
 use nearest_hit::nearest::IndexedCast;
-use nearest_hit::summary::{NearestSoFar, Outcome};
+use nearest_hit::summary::NearestSoFar;
 use nearest_hit::{nearest, summary};
 use tree::mesh;
-use triangle_cast::parts::Crossing;
 use triangle_cast::triangle;
-use vectors::vec3::Vec3;
 
-// The answer of one triangle without its normal, for an admitted ray: an index past the vertices is 5.
-fn triangle_reach(ray: Ray, pose: &[f64], triangles: &[u32], index: usize) -> Reach
+// The answer of one triangle without its normal, for an admitted ray: an index past the vertices is 5. A long ray spends a fifth of its
+// instructions more where it is not compiled into the loop.
+#[inline(always)]
+pub fn triangle_reach(ray: Ray, pose: &[f64], triangles: &[u32], index: usize) -> Reach
     requires { 3 * index + 3 ≤ length triangles.now }
-    ensures { result ≡ reach_of (triangle_answer ray pose.now triangles.now index) }
+    ensures { says_reach result ≡ reach_of (triangle_answer ray pose.now triangles.now index) }
 {
     if !mesh::corners_inside(pose.len() / 3, triangles, index) {
-        return Reach::Refused(answer::OUT_OF_BOUNDS);
+        return Err(Refusal::OutOfBounds);
     }
-    let start = triangle::crossing(ray, mesh::corners_of(pose, triangles, index));
-    match start {
-        Crossing::Within {
-            offset,
-            a,
-            b,
-            determinant,
-            inverse,
-            u,
-        } => {
-            return triangle::reach_within(ray, offset, a, b, determinant, inverse, u);
-        }
-        Crossing::Miss => {
-            return Reach::Miss;
-        }
-        Crossing::Refused(number) => {
-            return Reach::Refused(number);
-        }
-    }
+    let Some(within) = triangle::crossing(ray, mesh::corners_of(pose, triangles, index))? else {
+        return Ok(None);
+    };
+    triangle::reach_within(ray, within)
 }
 
 // The notes of the triangles in the first places of a list, for an admitted ray. A refusal does not end them: one of a lower index may
@@ -57,26 +37,11 @@ fn note_all(ray: Ray, pose: &[f64], triangles: &[u32], list: &[u32], found: usiz
         (take found list.now) }
 {
     let mut notes = summary::empty();
-    let mut i: usize = 0;
-    while i < found {
-        let index = list[i];
-        let reach = triangle_reach(ray, pose, triangles, index as usize);
-        notes = summary::note(notes, index, reach);
-        i += 1;
+    for index in &list[..found] {
+        let reach = triangle_reach(ray, pose, triangles, *index as usize);
+        notes = summary::note(notes, *index, reach);
     }
     notes
-}
-
-// The hit at the distance that the corners are reached at. It has one user, into which it is compiled: a call would be handed the corners
-// through memory.
-fn hit_on(ray: Ray, corners: [Vec3; 3], distance: f64) -> Cast
-    ensures { says result ≡ triangle_normal ray (sub_of (corner corners 1) (corner corners 0))
-        (sub_of (corner corners 2) (corner corners 0)) distance }
-{
-    let first = corners[0];
-    let second = corners[1];
-    let third = corners[2];
-    triangle::triangle_normal(ray, second.sub(first), third.sub(first), distance)
 }
 
 // The nearest hit of the triangles in the first places of a list, for an admitted ray: as if they stood there ascending, in whatever order
@@ -93,18 +58,10 @@ pub fn nearest_of(
         (sorted (take found list.now)) }
 {
     let notes = note_all(ray, pose, triangles, list, found);
-    let winner = summary::winner(notes);
-    match winner {
-        Outcome::Nobody => {
-            return IndexedCast::None;
-        }
-        Outcome::Refused(number) => {
-            return IndexedCast::Refused(number);
-        }
-        Outcome::NearestHit { index, distance } => {
-            let corners = mesh::corners_of(pose, triangles, index as usize);
-            let hit = hit_on(ray, corners, distance);
-            return nearest::next(IndexedCast::None, index, hit);
-        }
-    }
+    let Some(winner) = summary::winner(notes)? else {
+        return Ok(None);
+    };
+    let corners = mesh::corners_of(pose, triangles, winner.index as usize);
+    let hit = triangle::hit_at(ray, corners, winner.distance);
+    nearest::next(Ok(None), winner.index, hit)
 }

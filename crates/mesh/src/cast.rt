@@ -8,12 +8,11 @@ ghost use Rattle.mesh.specs.MeshCast.{mesh_cast};
 ghost use Rattle.mesh.specs.Demand3.{Casts};
 
 use crate::candidates;
-use casts::answer;
+use casts::answer::Refusal;
 use geometry::ray::Ray;
 use nearest_hit::nearest::IndexedCast;
 use tree::mesh;
 use tree_query::{query, walk};
-use tree_walk::step::Filled;
 
 // Whether the lengths of the mesh and of the vertices to cast at, and the node count, are admitted.
 pub fn shape_admitted(vertices: usize, triangles: usize, pose: usize, nodes: usize) -> bool
@@ -28,8 +27,10 @@ pub fn shape_admitted(vertices: usize, triangles: usize, pose: usize, nodes: usi
     nodes <= 2 * (triangles / 3)
 }
 
-// The cast once refusals 1 to 4 have let it pass; the list and the stack may hold anything afterwards.
-fn mesh_cast(
+// The cast once refusals 1 to 4 have let it pass; the list and the stack may hold anything afterwards. It is compiled into each of its
+// users.
+#[inline(always)]
+pub fn mesh_cast(
     ray: Ray,
     triangles: &[u32],
     pose: &[f64],
@@ -49,7 +50,7 @@ fn mesh_cast(
 {
     let end = ray.segment_end();
     if !end.is_finite() {
-        return IndexedCast::Refused(answer::OVERFLOW);
+        return Err(Refusal::Overflow);
     }
     // With both ends finite the box is valid, so that it needs no test.
     let bounds = ray.segment_box(end);
@@ -65,11 +66,11 @@ fn mesh_cast(
         list,
         stack,
     );
-    let Filled::Count(found) = walked else {
-        return IndexedCast::Refused(answer::OUT_OF_BOUNDS);
+    let Some(found) = walked else {
+        return Err(Refusal::OutOfBounds);
     };
     if found == 0 {
-        return IndexedCast::None;
+        return Ok(None);
     }
     candidates::nearest_of(ray, pose, triangles, list, found)
 }
@@ -95,10 +96,10 @@ pub fn ray_mesh(
         list.old list.new stack.old stack.new (says_indexed result) }
 {
     if !ray.validate() {
-        return IndexedCast::Refused(answer::INVALID_INPUT);
+        return Err(Refusal::InvalidInput);
     }
     if !shape_admitted(vertices.len(), triangles.len(), pose.len(), nodes) {
-        return IndexedCast::Refused(answer::BAD_SHAPE);
+        return Err(Refusal::BadShape);
     }
     let count = triangles.len() / 3;
     if !query::walk_fits(
@@ -111,10 +112,10 @@ pub fn ray_mesh(
         list.len(),
         stack.len(),
     ) {
-        return IndexedCast::Refused(answer::NO_ROOM);
+        return Err(Refusal::NoRoom);
     }
     if pose.len() != vertices.len() {
-        return IndexedCast::Refused(answer::WRONG_POSE);
+        return Err(Refusal::WrongPose);
     }
     mesh_cast(
         ray,

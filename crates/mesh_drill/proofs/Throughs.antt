@@ -1,4 +1,5 @@
 -- The drill through a tree: each refusal, and what the walk listed. Assumes nothing.
+use Rattle.std.specs.Prelude.{Option, Some, None}
 use Rattle.std.proofs.Common.{◌≡◌, ℕ, ◌*◌, Bool, true, false, cond, ◌&&◌, leb, List, [], length, take, sym, ap, ◌∙◌, eq-eqb, ne_eqb}
 use lib.Ieee.{Float}
 use Rattle.lists.proofs.JoinedTests.{and_first}
@@ -11,8 +12,6 @@ use Rattle.tree.specs.Layout.{Tree, box_at}
 use Rattle.tree.specs.Mesh.{Mesh, thirds, triangle_count, lengths_admitted}
 use Rattle.tree_walk.specs.Walk.{walk_of}
 use Rattle.tree_walk.specs.Areas.{listed}
-use Rattle.tree_walk.specs.declared.step.Filled.{Filled}
-use Rattle.tree_walk.specs.declared.step.Filled.TheVariants.{Count, Broken}
 use Rattle.tree_query.specs.Query.{walk_fits}
 use Rattle.mesh.specs.MeshCast.{shape_admitted}
 use Rattle.exact_triangle.specs.Line.{Line}
@@ -58,18 +57,18 @@ module _ (r : Ray) (radius : Float) (m : Mesh) (t : Tree) where
   unfolding over_tree
   root_in h d e = e ∙ sym (ap (λ (b : Bool). cond b (walked_by (grid_line r) (radius_on radius) m t) (over_mesh r radius m)) h)
 
-module _ (l : Line) (ρ : ℕ) (m : Mesh) (t : Tree) (box : Aabb) (b : box ≡ drill_box l ρ) (x : Filled) (exit : List ℕ)
+module _ (l : Line) (ρ : ℕ) (m : Mesh) (t : Tree) (box : Aabb) (b : box ≡ drill_box l ρ) (x : Option ℕ) (exit : List ℕ)
     (w : listed [] x exit ≡ walk_of t (triangle_count m) box) where
   walked : over_walk l ρ m (listed [] x exit) ≡ walked_by l ρ m t
   walked = ap (over_walk l ρ m) (w ∙ ap (walk_of t (triangle_count m)) b)
 
-  pub walk_broken : x ≡ Broken → Stopped out_of_bounds ≡ walked_by l ρ m t
+  pub walk_broken : x ≡ None → Stopped out_of_bounds ≡ walked_by l ρ m t
   unfolding over_walk
-  walk_broken e = sym (ap (λ (y : Filled). over_walk l ρ m (listed [] y exit)) e) ∙ walked
+  walk_broken e = sym (ap (λ (y : Option ℕ). over_walk l ρ m (listed [] y exit)) e) ∙ walked
 
-  pub walk_listed : (k : ℕ) → x ≡ Count k → (d : DrillAnswer) → d ≡ first_answer (drilled_at l ρ m) (take k exit) → d ≡ walked_by l ρ m t
+  pub walk_listed : (k : ℕ) → x ≡ Some k → (d : DrillAnswer) → d ≡ first_answer (drilled_at l ρ m) (take k exit) → d ≡ walked_by l ρ m t
   unfolding over_walk
-  walk_listed k e d f = f ∙ sym (ap (λ (y : Filled). over_walk l ρ m (listed [] y exit)) e) ∙ walked
+  walk_listed k e d f = f ∙ sym (ap (λ (y : Option ℕ). over_walk l ρ m (listed [] y exit)) e) ∙ walked
 
 -- ---- refusals, in their order
 module _ (r : Ray) (radius : Float) (m : Mesh) (t : Tree) (list stack : ℕ) where

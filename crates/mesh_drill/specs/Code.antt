@@ -1,20 +1,10 @@
--- Inner contracts only: what the code's numbers of a drill stand for, and a corner of its box. Definitions only. Assumes nothing.
-use Rattle.std.specs.Prelude.{ℕ, ◌≤◌, ℤ, Float}
+-- Inner contracts only: what the code's numbers of a drill stand for. Definitions only. Assumes nothing.
+use Rattle.std.specs.Prelude.{ℕ, ◌≤◌}
 use Rattle.wide_integers.specs.Sizes.{Sized}
-use Rattle.vectors.specs.declared.vec3.Vec3.{Vec3}
-use Rattle.exact_depth.specs.declared.projection.Point.{Point}
 use Rattle.exact_triangle.specs.Line.{Line, Moves}
 use Rattle.exact_triangle.specs.Sizes.{Near, DirectionSized}
 use Rattle.drill.specs.Code.{About}
 use Rattle.mesh_drill.specs.declared.cylinder.Cylinder.{Cylinder}
-
--- a side on each axis
-abbrev pub corner_by : (ℤ → ℤ → ℕ → ℕ → Float) → Point → Point → ℕ → ℕ → Vec3
-corner_by side o d near far = record {
-  x = side o.x d.x near far;
-  y = side o.y d.y near far;
-  z = side o.z d.z near far;
-}
 
 -- the code's drill is that of the radius ρ about l
 abbrev pub IsCylinder : Cylinder → Line → ℕ → Type 0

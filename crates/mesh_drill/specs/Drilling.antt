@@ -1,25 +1,24 @@
 -- A ray's drill at a mesh. Definitions only. Assumes nothing.
-use Rattle.std.specs.Prelude.{◌≡◌, ℕ, Bool, true, false, ◌&&◌, List, [], ◌∷◌, length, ◌≢◌, Float}
+use Rattle.std.specs.Prelude.{◌≡◌, ℕ, Bool, true, false, ◌&&◌, List, [], ◌∷◌, length, ◌≢◌, Float, Option, Some, None, Result, Ok, Err}
 use Rattle.lists.specs.Refusals.{Test, refusing, unless_refused}
 use Rattle.geometry.specs.Box.{corners_box, touches}
 use Rattle.geometry.specs.Segment.{ray_admitted}
 use Rattle.geometry.specs.declared.ray.Ray.{Ray}
-use Rattle.casts.specs.Answer.{invalid_input, bad_shape, out_of_bounds, out_of_range}
+use Rattle.casts.specs.Answer.{invalid_input, bad_shape, out_of_bounds, out_of_range, number_of}
 use Rattle.tree.specs.Mesh.{Mesh, corners_of, lengths_admitted, triangles_fit}
 use Rattle.exact_triangle.specs.Line.{Line}
 use Rattle.exact_triangle.specs.Grid.{within, grid_admitted, grid_line}
 use Rattle.drill.specs.Box.{drill_box}
 use Rattle.mesh_drill.specs.MeshDrill.{DrillAnswer, Clear, Touches, Stopped, touched_at, drill_all, mesh_read, CertainDrill}
 use Rattle.mesh_exact.specs.Certain.{InRange, OutOfRange}
-use Rattle.mesh_drill.specs.declared.answer.DrillCast.{DrillCast as Code}
-use Rattle.mesh_drill.specs.declared.answer.DrillCast.TheVariants.{Clear as Nothing, Touched, Refused}
+use Rattle.casts.specs.declared.answer.Refusal.{Refusal}
 use Rattle.mesh_drill.specs.Radius.{widestᶠ, radius_admitted, radius_on}
 
 -- what each case of the code's answer says
-abbrev pub says_drill : Code → DrillAnswer
-says_drill Nothing = Clear
-says_drill (Touched index) = Touches index
-says_drill (Refused number) = Stopped number
+abbrev pub says_drill : Result (Option ℕ) Refusal → DrillAnswer
+says_drill (Ok None) = Clear
+says_drill (Ok (Some index)) = Touches index
+says_drill (Err refusal) = Stopped (number_of refusal)
 
 -- refusals of the ray and the radius: 1 for either, then 12 for either
 abbrev pub drill_tests : Ray → Float → List Test

@@ -1,7 +1,4 @@
-// Clear, the lowest index of a triangle that is touched, or a refusal with its number.
-#[derive(Clone, Copy)]
-pub enum DrillCast {
-    Clear,
-    Touched(u32),
-    Refused(u32),
-}
+use casts::answer::Refusal;
+
+// The lowest index of a triangle that is touched, or none, which is clear, or a refusal.
+pub type DrillCast = Result<Option<u32>, Refusal>;

@@ -1,4 +1,4 @@
-ghost use Rattle.std.specs.Prelude.{◌≡◌, ℕ, ◌+◌, ◌*◌, ◌≤◌, true, length};
+ghost use Rattle.std.specs.Prelude.{◌≡◌, ℕ, ◌+◌, ◌*◌, ◌≤◌, true, length, IfSome};
 ghost use Rattle.tree.specs.Mesh.{mesh, thirds, corners_inside, corners_of, triangles_fit};
 ghost use Rattle.mesh_plain.specs.Boxes.{Coded};
 ghost use Rattle.exact_triangle.specs.Line.{Line};
@@ -36,8 +36,7 @@ pub fn is_touched(drill: Drill, vertices: &[f64], triangles: &[u32], index: usiz
 fn is_reached(
     drill: Drill,
     bounds: Aabb,
-    coded: bool,
-    codes: &[u64],
+    codes: Option<&[u64]>,
     vertices: &[f64],
     triangles: &[u32],
     index: usize,
@@ -45,11 +44,11 @@ fn is_reached(
     requires { ((3 * index + 3 ≤ length triangles.now)
         × (corners_inside (thirds (length vertices.now)) triangles.now index ≡ true))
         × ((DrillSized drill) × ((corners_read (corners_of vertices.now triangles.now index) ≡ true)
-        × (coded ≡ true → Coded bounds vertices.now codes.now))) }
+        × (IfSome codes (λ told. Coded bounds vertices.now told.now)))) }
     ensures { (l : Line) (ρ : ℕ) → Drills drill l ρ → Runs l → bounds ≡ drill_box l ρ
         → result ≡ reached_at l ρ (mesh vertices.now triangles.now) index }
 {
-    if !boxes::triangle_touches(coded, codes, bounds, vertices, triangles, index) {
+    if !boxes::triangle_touches(codes, bounds, vertices, triangles, index) {
         return false;
     }
     is_touched(drill, vertices, triangles, index)
@@ -59,23 +58,20 @@ fn is_reached(
 pub fn first_touched(
     drill: Drill,
     bounds: Aabb,
-    coded: bool,
-    codes: &[u64],
+    codes: Option<&[u64]>,
     vertices: &[f64],
     triangles: &[u32],
 ) -> DrillCast
     requires { (length triangles.now ≤ 196608) × ((DrillSized drill) × (((triangles_fit (mesh vertices.now triangles.now) ≡ true)
-        × (mesh_read (mesh vertices.now triangles.now) ≡ true)) × (coded ≡ true → Coded bounds vertices.now codes.now))) }
+        × (mesh_read (mesh vertices.now triangles.now) ≡ true)) × (IfSome codes (λ told. Coded bounds vertices.now told.now)))) }
     ensures { (l : Line) (ρ : ℕ) → Drills drill l ρ → Runs l → bounds ≡ drill_box l ρ
         → says_drill result ≡ drill_boxed l ρ (mesh vertices.now triangles.now) }
 {
     let count = triangles.len() / 3;
-    let mut i: usize = 0;
-    while i < count {
-        if is_reached(drill, bounds, coded, codes, vertices, triangles, i) {
-            return DrillCast::Touched(i as u32);
+    for i in 0..count {
+        if is_reached(drill, bounds, codes, vertices, triangles, i) {
+            return Ok(Some(i as u32));
         }
-        i += 1;
     }
-    DrillCast::Clear
+    Ok(None)
 }

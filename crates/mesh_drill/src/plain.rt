@@ -7,7 +7,7 @@ ghost use Rattle.mesh_drill.specs.Drilling.{says_drill, drill_plain, over_mesh, 
 
 use crate::answer::DrillCast;
 use crate::{cylinder, pass, whole};
-use casts::answer;
+use casts::answer::Refusal;
 use drill::corner;
 use exact_triangle::view;
 use geometry::ray::Ray;
@@ -33,7 +33,7 @@ fn over_triangles(ray: Ray, radius: f64, vertices: &[f64], triangles: &[u32]) ->
     );
     let mut codes = [0u64; 32];
     let coded = boxes::put_codes(&mut codes, around, vertices);
-    pass::first_touched(drill, around, coded, &codes, vertices, triangles)
+    pass::first_touched(drill, around, coded, vertices, triangles)
 }
 
 // The drill once refusals 1, 12 of the ray and the radius and 2 have let it pass.
@@ -43,10 +43,10 @@ pub fn over_mesh(ray: Ray, radius: f64, vertices: &[f64], triangles: &[u32]) -> 
 {
     let within = bounds::all_within(vertices);
     if !whole::all_fit(within, vertices, triangles) {
-        return DrillCast::Refused(answer::OUT_OF_BOUNDS);
+        return Err(Refusal::OutOfBounds);
     }
     if !whole::all_read(within, vertices, triangles) {
-        return DrillCast::Refused(answer::OUT_OF_RANGE);
+        return Err(Refusal::OutOfRange);
     }
     over_triangles(ray, radius, vertices, triangles)
 }
@@ -59,19 +59,19 @@ pub fn drill_plain(ray: Ray, radius: f64, vertices: &[f64], triangles: &[u32]) -
     ensures certain_ray_drill { CertainRayDrill ray radius (mesh vertices.now triangles.now) (says_drill result) }
 {
     if !ray.validate() {
-        return DrillCast::Refused(answer::INVALID_INPUT);
+        return Err(Refusal::InvalidInput);
     }
     if !cylinder::radius_admitted(radius) {
-        return DrillCast::Refused(answer::INVALID_INPUT);
+        return Err(Refusal::InvalidInput);
     }
     if !view::admitted(ray) {
-        return DrillCast::Refused(answer::OUT_OF_RANGE);
+        return Err(Refusal::OutOfRange);
     }
     if !cylinder::radius_read(radius) {
-        return DrillCast::Refused(answer::OUT_OF_RANGE);
+        return Err(Refusal::OutOfRange);
     }
     if !triangle_mesh::lengths_admitted(vertices.len(), triangles.len()) {
-        return DrillCast::Refused(answer::BAD_SHAPE);
+        return Err(Refusal::BadShape);
     }
     over_mesh(ray, radius, vertices, triangles)
 }

@@ -11,16 +11,15 @@ ghost use Rattle.mesh_drill.specs.Code.{IsCylinder, Runs, CylinderSized};
 
 use crate::answer::DrillCast;
 use crate::cylinder::Cylinder;
-use crate::{cylinder, pass, plain, whole};
-use casts::answer;
+use crate::{cylinder, pass, plain};
+use casts::answer::Refusal;
 use drill::corner;
 use drill::corner::Drill;
-use exact_triangle::{grid, view};
+use exact_triangle::{cast as triangle, grid, view};
 use geometry::ray::Ray;
 use mesh::cast as mesh_cast;
 use tree::{layout, mesh as triangle_mesh};
 use tree_query::{query, walk};
-use tree_walk::step::Filled;
 
 // The answer of one triangle.
 fn drilled_at(drill: Drill, vertices: &[f64], triangles: &[u32], index: u32) -> DrillCast
@@ -30,15 +29,15 @@ fn drilled_at(drill: Drill, vertices: &[f64], triangles: &[u32], index: u32) -> 
 {
     let place = index as usize;
     if !triangle_mesh::corners_inside(vertices.len() / 3, triangles, place) {
-        return DrillCast::Refused(answer::OUT_OF_BOUNDS);
+        return Err(Refusal::OutOfBounds);
     }
-    if !whole::corners_read(triangle_mesh::corners_of(vertices, triangles, place)) {
-        return DrillCast::Refused(answer::OUT_OF_RANGE);
+    if !triangle::corners_read(triangle_mesh::corners_of(vertices, triangles, place)) {
+        return Err(Refusal::OutOfRange);
     }
     if pass::is_touched(drill, vertices, triangles, place) {
-        return DrillCast::Touched(index);
+        return Ok(Some(index));
     }
-    DrillCast::Clear
+    Ok(None)
 }
 
 // The first answer that is not clear of the triangles in the first places of a list.
@@ -54,22 +53,12 @@ fn first_listed(
         → says_drill result ≡ first_answer (drilled_at l ρ (mesh vertices.now triangles.now))
         (take found list.now) }
 {
-    let mut i: usize = 0;
-    while i < found {
-        let answer = drilled_at(drill, vertices, triangles, list[i]);
-        match answer {
-            DrillCast::Clear => {
-                i += 1;
-            }
-            DrillCast::Touched(index) => {
-                return DrillCast::Touched(index);
-            }
-            DrillCast::Refused(number) => {
-                return DrillCast::Refused(number);
-            }
+    for i in 0..found {
+        if let Some(index) = drilled_at(drill, vertices, triangles, list[i])? {
+            return Ok(Some(index));
         }
     }
-    DrillCast::Clear
+    Ok(None)
 }
 
 // Whether the first node's box is within the range.
@@ -142,8 +131,8 @@ fn over_walk(
         list,
         stack,
     );
-    let Filled::Count(found) = walked else {
-        return DrillCast::Refused(answer::OUT_OF_BOUNDS);
+    let Some(found) = walked else {
+        return Err(Refusal::OutOfBounds);
     };
     over_list(body, vertices, triangles, list, found)
 }
@@ -207,19 +196,19 @@ pub fn drill_through(
         list.old list.new stack.old stack.new (says_drill result) }
 {
     if !ray.validate() {
-        return DrillCast::Refused(answer::INVALID_INPUT);
+        return Err(Refusal::InvalidInput);
     }
     if !cylinder::radius_admitted(radius) {
-        return DrillCast::Refused(answer::INVALID_INPUT);
+        return Err(Refusal::InvalidInput);
     }
     if !view::admitted(ray) {
-        return DrillCast::Refused(answer::OUT_OF_RANGE);
+        return Err(Refusal::OutOfRange);
     }
     if !cylinder::radius_read(radius) {
-        return DrillCast::Refused(answer::OUT_OF_RANGE);
+        return Err(Refusal::OutOfRange);
     }
     if !mesh_cast::shape_admitted(vertices.len(), triangles.len(), vertices.len(), nodes) {
-        return DrillCast::Refused(answer::BAD_SHAPE);
+        return Err(Refusal::BadShape);
     }
     if !query::walk_fits(
         triangles.len() / 3,
@@ -231,7 +220,7 @@ pub fn drill_through(
         list.len(),
         stack.len(),
     ) {
-        return DrillCast::Refused(answer::NO_ROOM);
+        return Err(Refusal::NoRoom);
     }
     over_tree(
         ray,

@@ -1,26 +1,11 @@
 ghost use Rattle.std.specs.Prelude.{◌≡◌, ◌≤◌, true, length};
 ghost use Rattle.tree.specs.Mesh.{mesh, triangles_fit};
-ghost use Rattle.exact_triangle.specs.Reach.{corners_read};
 ghost use Rattle.mesh_exact.specs.Bounds.{AllWithin};
 ghost use Rattle.mesh_drill.specs.MeshDrill.{mesh_read};
 
-use exact_triangle::grid;
+use exact_triangle::cast as triangle;
 use mesh_plain::boxes;
 use tree::mesh as triangle_mesh;
-use vectors::vec3::Vec3;
-
-// Whether every corner is within 8,192 mm.
-pub fn corners_read(corners: [Vec3; 3]) -> bool
-    ensures { result ≡ corners_read corners }
-{
-    if !grid::all_within(grid::FURTHEST, corners[0]) {
-        return false;
-    }
-    if !grid::all_within(grid::FURTHEST, corners[1]) {
-        return false;
-    }
-    grid::all_within(grid::FURTHEST, corners[2])
-}
 
 // Whether the indices of each triangle are below the vertex count: where all vertices are in range, its box is valid then.
 fn all_inside(vertices: &[f64], triangles: &[u32]) -> bool
@@ -29,12 +14,10 @@ fn all_inside(vertices: &[f64], triangles: &[u32]) -> bool
 {
     let limit = vertices.len() / 3;
     let count = triangles.len() / 3;
-    let mut i: usize = 0;
-    while i < count {
+    for i in 0..count {
         if !triangle_mesh::corners_inside(limit, triangles, i) {
             return false;
         }
-        i += 1;
     }
     true
 }
@@ -56,12 +39,10 @@ fn each_read(vertices: &[f64], triangles: &[u32]) -> bool
     ensures { result ≡ mesh_read (mesh vertices.now triangles.now) }
 {
     let count = triangles.len() / 3;
-    let mut i: usize = 0;
-    while i < count {
-        if !corners_read(triangle_mesh::corners_of(vertices, triangles, i)) {
+    for i in 0..count {
+        if !triangle::corners_read(triangle_mesh::corners_of(vertices, triangles, i)) {
             return false;
         }
-        i += 1;
     }
     true
 }

@@ -6,8 +6,7 @@ use lib.ListN.{length}
 use Rattle.geometry.specs.Box.{corners_box, touches}
 use Rattle.geometry.specs.declared.aabb.Aabb.{Aabb}
 use Rattle.geometry.specs.declared.ray.Ray.{Ray}
-use Rattle.casts.specs.Reach.{reach_of}
-use Rattle.casts.specs.declared.answer.Reach.TheVariants.{Miss}
+use Rattle.casts.specs.Reach.{reach_of, Miss}
 use Rattle.tree.specs.Mesh.{Mesh, thirds, corners_inside, corners_of}
 use Rattle.exact_triangle.specs.declared.view.View.{View}
 use Rattle.mesh_exact.specs.GridCast.{exact_answer}

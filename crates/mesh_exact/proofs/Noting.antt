@@ -1,5 +1,6 @@
 -- The notes of the pass over the triangles: what is left of them gives the whole, the first index past the vertices decides, and the
 -- winner's answer is the answer of all. Assumes nothing.
+use Rattle.nearest_hit.specs.Summary.{Outcome, Nobody, RefusedBy, NearestHit}
 use Prim.Native.Nat.{ℕ, ◌+◌, ◌-◌, ◌<◌, ◌≤◌}
 use mathlib.Core.Path.{◌≡◌, refl, sym, ap, ◌∙◌}
 use mathlib.Core.Bool.{Bool, true, false, cond}
@@ -12,13 +13,9 @@ use Rattle.lists.specs.Lists.{range}
 use Rattle.lists.proofs.CountLaws.{count_of_member, range_bounds}
 use Rattle.lists.proofs.SortLaws.{ascending_rises, range_ascends}
 use Rattle.casts.specs.Answer.{Answer, out_of_bounds}
-use Rattle.casts.specs.Reach.{reach_of}
-use Rattle.casts.specs.declared.answer.Reach.{Reach}
-use Rattle.casts.specs.declared.answer.Reach.TheVariants.{Miss}
+use Rattle.casts.specs.Reach.{reach_of, Reach, Miss}
 use Rattle.nearest_hit.specs.Nearest.{Indexed, no_hit, stopped, next_of, nearest_of}
 use Rattle.nearest_hit.specs.Summary.{Summary, nothing, note_of, summary_from, winner, answer_at}
-use Rattle.nearest_hit.specs.declared.summary.Outcome.{Outcome}
-use Rattle.nearest_hit.specs.declared.summary.Outcome.TheVariants.{Nobody, Refused, NearestHit}
 use Rattle.nearest_hit.proofs.SummaryLaws.{nearest_of_ascending}
 use Rattle.nearest_hit.proofs.SummaryMembers.{winner_of_list}
 use Rattle.tree.specs.Mesh.{Mesh, triangle_count, triangles_fit}
@@ -67,7 +64,7 @@ module _ (r : Ray) (m : Mesh) where
   abbrev all : List ℕ
   all = range 0 (triangle_count m)
 
-  refusal_no_hit : (number index : ℕ) (distance : Float) → Refused number ≡ NearestHit index distance → ⊥
+  refusal_no_hit : (number index : ℕ) (distance : Float) → RefusedBy number ≡ NearestHit index distance → ⊥
   refusal_no_hit number index distance h = let z : ◌≡◌ {A = ℕ} 0 1 = cc in omega arith
 
   pub unfit_over : triangles_fit m ≡ false → stopped out_of_bounds ≡ over_triangles r m
@@ -75,7 +72,7 @@ module _ (r : Ray) (m : Mesh) where
   unfit_over h = sym (ap (λ (b : Bool). cond b (nearest_of answers all) (stopped out_of_bounds)) h)
 
   -- an index past the vertices
-  pub won_past : triangles_fit m ≡ false → Won r m (Refused out_of_bounds)
+  pub won_past : triangles_fit m ≡ false → Won r m (RefusedBy out_of_bounds)
   unfolding answer_at
   won_past h = record {
     answers = unfit_over h;
@@ -108,7 +105,7 @@ module _ (r : Ray) (m : Mesh) where
     unfolding answer_at
     nobody_won e = ap (answer_at answers) (sym e) ∙ won.answers
 
-    pub refusal_won : (number : ℕ) → outcome ≡ Refused number → stopped number ≡ over_triangles r m
+    pub refusal_won : (number : ℕ) → outcome ≡ RefusedBy number → stopped number ≡ over_triangles r m
     unfolding answer_at
     refusal_won number e = ap (answer_at answers) (sym e) ∙ won.answers
 

@@ -17,8 +17,7 @@ use Rattle.vectors.specs.declared.vec3.Vec3.{Vec3}
 use Rattle.geometry.specs.Segment.{ray_admitted}
 use Rattle.geometry.specs.declared.ray.Ray.{Ray}
 use Rattle.casts.specs.Answer.{Answer, hit, none, refused, out_of_bounds, out_of_range}
-use Rattle.casts.specs.Reach.{reach_of}
-use Rattle.casts.specs.declared.answer.Reach.TheVariants.{At}
+use Rattle.casts.specs.Reach.{reach_of, At}
 use Rattle.tree.specs.Mesh.{Mesh, thirds, corners_inside, corners_of, triangle_count}
 use Rattle.wide_integers.proofs.Integers.{pp}
 use Rattle.exact_depth.specs.declared.projection.Point.{Point}

@@ -12,9 +12,7 @@ use Rattle.geometry.specs.Box.{corner, corners_box, touches}
 use Rattle.geometry.specs.Segment.{ray_admitted}
 use Rattle.geometry.specs.declared.ray.Ray.{Ray}
 use Rattle.casts.specs.Answer.{Answer, refused, out_of_bounds, out_of_range}
-use Rattle.casts.specs.Reach.{reach_of}
-use Rattle.casts.specs.declared.answer.Reach.{Reach}
-use Rattle.casts.specs.declared.answer.Reach.TheVariants.{At, Miss, Refused}
+use Rattle.casts.specs.Reach.{reach_of, Reach, At, Miss, Refused}
 use Rattle.tree.specs.Mesh.{thirds, corners_inside, corners_of}
 use Rattle.exact_triangle.specs.Grid.{grid_admitted, grid_line}
 use Rattle.exact_triangle.specs.Box.{certain_box}

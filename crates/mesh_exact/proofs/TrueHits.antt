@@ -1,4 +1,6 @@
 -- A triangle whose answer is a hit is met first at that distance, and the normal is its own. Assumes nothing.
+use Rattle.std.specs.Prelude.{Option, Some, None}
+use Rattle.casts.specs.Reach.{Reach, At, Miss, Refused}
 use Prim.Native.Nat.{ℕ, ◌*◌, ◌<◌}
 use mathlib.Core.Path.{◌≡◌, refl, sym, ap, ◌∙◌, subst}
 use mathlib.Core.Bool.{Bool, true, false, cond, false≢true}
@@ -10,14 +12,10 @@ use lib.Signed.{le_z}
 use borrow.Author.Tests.{le-leb}
 use Rattle.vectors.specs.Vector.{dot_of}
 use Rattle.vectors.specs.declared.vec3.Vec3.{Vec3}
-use Rattle.vectors.specs.declared.vec3.Normalized.{Normalized}
-use Rattle.vectors.specs.declared.vec3.Normalized.TheVariants.{Unit as UnitOf, Degenerate}
 use Rattle.geometry.specs.Segment.{ray_admitted}
 use Rattle.geometry.specs.declared.ray.Ray.{Ray}
 use Rattle.casts.specs.Answer.{Answer, hit, none, refused, with_normal, no_normal, out_of_bounds}
 use Rattle.casts.specs.Surface.{facing}
-use Rattle.casts.specs.declared.answer.Reach.{Reach}
-use Rattle.casts.specs.declared.answer.Reach.TheVariants.{At, Miss, Refused}
 use Rattle.tree.specs.Mesh.{Mesh, thirds, corners_inside, corners_of, triangle_count}
 use Rattle.wide_integers.proofs.Integers.{pp}
 use Rattle.exact_depth.specs.declared.projection.Point.{Point}
@@ -43,7 +41,7 @@ normal_in other (refused k) = other
 -- that of a cross, where it gives a hit
 record Faced (r : Ray) (cross : Point) (normal : Vec3) : Type 0 where
   unit : Vec3
-  normalised : normal_of cross ≡ UnitOf unit
+  normalised : normal_of cross ≡ Some unit
   faces : normal ≡ facing unit (dot_of r.direction unit)
 
 module _ (r : Ray) (cross : Point) (normal : Vec3) (distance : Float) where
@@ -51,10 +49,10 @@ module _ (r : Ray) (cross : Point) (normal : Vec3) (distance : Float) where
   unfolding grid_normal
   faced x = go (normal_of cross) refl
     where
-      go : (n : Normalized) → normal_of cross ≡ n
+      go : (n : Option Vec3) → normal_of cross ≡ n
           → with_normal n no_normal (λ (v : Vec3). hit (facing v (dot_of r.direction v)) x) ≡ hit normal distance → Faced r cross normal
-      go (UnitOf v) e h = record { unit = v; normalised = e; faces = sym (ap (normal_in normal) h) }
-      go Degenerate e h = absurd (false≢true (ap is_hit h))
+      go (Some v) e h = record { unit = v; normalised = e; faces = sym (ap (normal_in normal) h) }
+      go None e h = absurd (false≢true (ap is_hit h))
 
   reach_faced : (q : Reach) → reach_hit r cross q ≡ hit normal distance → Faced r cross normal
   reach_faced (At x) h = faced x h

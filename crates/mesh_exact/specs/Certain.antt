@@ -1,12 +1,11 @@
 -- What the exact cast's answer says of every point of the segment and every triangle of the mesh, over whole numbers: corners, origin and
 -- distances are whole numbers of 2^-15 mm, a direction's components of 2^-30. Definitions only. Assumes nothing.
-use Rattle.std.specs.Prelude.{ℕ, ◌*◌, ◌<◌, ◌≡◌, true, false, ℤ, pos, ◌*ℤ◌, length, Float}
+use Rattle.std.specs.Prelude.{ℕ, ◌*◌, ◌<◌, ◌≡◌, true, false, ℤ, pos, ◌*ℤ◌, length, Float, Some}
 use Rattle.std.specs.Int.Signed.{le_z}
 use Rattle.std.specs.Float.{binary64}
 use Rattle.std.specs.Float.Ieee.{round, lt}
 use Rattle.vectors.specs.Vector.{dot_of}
 use Rattle.vectors.specs.declared.vec3.Vec3.{Vec3}
-use Rattle.vectors.specs.declared.vec3.Normalized.TheVariants.{Unit as UnitOf}
 use Rattle.geometry.specs.Segment.{ray_admitted}
 use Rattle.geometry.specs.declared.ray.Ray.{Ray}
 use Rattle.casts.specs.Answer.{invalid_input, bad_shape, out_of_bounds, out_of_range}
@@ -61,7 +60,7 @@ pub record LeastDepth (l : Line) (m : Mesh) (distance : Float) : Type 0 where
 -- the normal of a hit: the cross of the triangle's edges on the grid, normalised, and facing the ray
 pub record HitNormal (r : Ray) (m : Mesh) (index : ℕ) (normal : Vec3) : Type 0 where
   pub unit : Vec3
-  pub normalised : normal_of (cross_of (corner_on m index 0) (corner_on m index 1) (corner_on m index 2)) ≡ UnitOf unit
+  pub normalised : normal_of (cross_of (corner_on m index 0) (corner_on m index 1) (corner_on m index 2)) ≡ Some unit
   pub faces : normal ≡ facing unit (dot_of r.direction unit)
 
 -- a hit of one triangle: t / D is the least depth of such a point of it, the distance is the float nearest to it in millimetres, and the

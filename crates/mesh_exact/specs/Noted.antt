@@ -3,11 +3,8 @@ use Rattle.std.specs.Prelude.{ℕ, ◌<◌, ◌≡◌, true, Float}
 use Rattle.geometry.specs.Segment.{ray_admitted}
 use Rattle.geometry.specs.declared.aabb.Aabb.{Aabb}
 use Rattle.geometry.specs.declared.ray.Ray.{Ray}
-use Rattle.casts.specs.Reach.{reach_of}
-use Rattle.casts.specs.declared.answer.Reach.TheVariants.{At}
-use Rattle.nearest_hit.specs.Summary.{answer_at}
-use Rattle.nearest_hit.specs.declared.summary.Outcome.{Outcome}
-use Rattle.nearest_hit.specs.declared.summary.Outcome.TheVariants.{NearestHit}
+use Rattle.casts.specs.Reach.{reach_of, At}
+use Rattle.nearest_hit.specs.Summary.{answer_at, Outcome, NearestHit}
 use Rattle.tree.specs.Mesh.{Mesh, triangle_count}
 use Rattle.exact_triangle.specs.Grid.{grid_line}
 use Rattle.exact_triangle.specs.Box.{certain_box}

@@ -6,15 +6,14 @@ ghost use Rattle.mesh_exact.specs.Noted.{Casts, Bounded};
 ghost use Rattle.mesh_exact.specs.Certain.{CertainMesh};
 
 use crate::{bounds, noted};
-use casts::answer;
-use exact_triangle::view::{GridView, View};
+use casts::answer::Refusal;
+use exact_triangle::view::View;
 use exact_triangle::{cast as triangle, view};
 use geometry::aabb::Aabb;
 use geometry::ray::Ray;
 use mesh_plain::boxes;
 use nearest_hit::nearest;
 use nearest_hit::nearest::IndexedCast;
-use nearest_hit::summary::Outcome;
 use tree::mesh as triangle_mesh;
 
 // The answer over all triangles; only the winner's normal is computed. Of up to 32 vertices it is computed first on which sides of the
@@ -31,24 +30,16 @@ fn over_triangles(
 {
     let within = bounds::all_within(vertices);
     if !noted::boxes_hold(within, vertices, triangles) {
-        return IndexedCast::Refused(answer::OUT_OF_BOUNDS);
+        return Err(Refusal::OutOfBounds);
     }
     let mut codes = [0u64; 32];
     let coded = boxes::put_codes(&mut codes, bounds, vertices);
-    let winner = noted::winner_of(line, bounds, vertices, triangles, within, coded, &codes);
-    match winner {
-        Outcome::Nobody => {
-            return IndexedCast::None;
-        }
-        Outcome::Refused(number) => {
-            return IndexedCast::Refused(number);
-        }
-        Outcome::NearestHit { index, distance } => {
-            let corners = triangle_mesh::corners_of(vertices, triangles, index as usize);
-            let hit = triangle::hit_on(ray, corners, distance);
-            return nearest::next(IndexedCast::None, index, hit);
-        }
-    }
+    let Some(winner) = noted::winner_of(line, bounds, vertices, triangles, within, coded)? else {
+        return Ok(None);
+    };
+    let corners = triangle_mesh::corners_of(vertices, triangles, winner.index as usize);
+    let hit = triangle::hit_on(ray, corners, winner.distance);
+    nearest::next(Ok(None), winner.index, hit)
 }
 
 // The cast once refusals 1, 12 of the ray and 2 have let it pass.
@@ -66,14 +57,14 @@ pub fn ray_mesh_exact_plain(ray: Ray, vertices: &[f64], triangles: &[u32]) -> In
     ensures certain_mesh { CertainMesh ray (mesh vertices.now triangles.now) (says_indexed result) }
 {
     if !ray.validate() {
-        return IndexedCast::Refused(answer::INVALID_INPUT);
+        return Err(Refusal::InvalidInput);
     }
     let viewed = view::view_of(ray);
-    let GridView::On(line) = viewed else {
-        return IndexedCast::Refused(answer::OUT_OF_RANGE);
+    let Some(line) = viewed else {
+        return Err(Refusal::OutOfRange);
     };
     if !triangle_mesh::lengths_admitted(vertices.len(), triangles.len()) {
-        return IndexedCast::Refused(answer::BAD_SHAPE);
+        return Err(Refusal::BadShape);
     }
     exact_cast(ray, line, vertices, triangles)
 }

@@ -1,7 +1,8 @@
-ghost use Rattle.std.specs.Prelude.{◌≡◌, true, false, ◌||◌, not, ◌+◌, ◌*◌, ◌≤◌, length};
+ghost use Rattle.std.specs.Prelude.{◌≡◌, true, false, ◌||◌, not, ◌+◌, ◌*◌, ◌≤◌, length, IfSome};
 ghost use Rattle.geometry.specs.Box.{corners_box, touches};
 ghost use Rattle.geometry.specs.declared.ray.Ray.{Ray as AnyRay};
-ghost use Rattle.casts.specs.Reach.{reach_of};
+ghost use Rattle.casts.specs.Reach.{reach_of, says_reach};
+ghost use Rattle.nearest_hit.specs.Summary.{says_outcome};
 ghost use Rattle.tree.specs.Mesh.{mesh, thirds, corners_inside, corners_of, triangles_fit};
 ghost use Rattle.mesh_plain.specs.Boxes.{BoxesHold, Coded};
 ghost use Rattle.exact_triangle.specs.View.{ViewSized};
@@ -9,8 +10,7 @@ ghost use Rattle.mesh_exact.specs.GridCast.{exact_answer};
 ghost use Rattle.mesh_exact.specs.Bounds.{AllWithin};
 ghost use Rattle.mesh_exact.specs.Noted.{Casts, Bounded, Won};
 
-use casts::answer;
-use casts::answer::Reach;
+use casts::answer::{Reach, Refusal};
 use exact_triangle::cast as triangle;
 use exact_triangle::view::View;
 use geometry::aabb::Aabb;
@@ -24,7 +24,7 @@ pub fn reach_of(line: View, vertices: &[f64], triangles: &[u32], index: usize) -
     requires { ((3 * index + 3 ≤ length triangles.now)
         × (corners_inside (thirds (length vertices.now)) triangles.now index ≡ true)) × (ViewSized line) }
     ensures { (ray : AnyRay) → Casts ray line
-        → result ≡ reach_of (exact_answer ray vertices.now triangles.now index) }
+        → says_reach result ≡ reach_of (exact_answer ray vertices.now triangles.now index) }
 {
     triangle::reach_on(line, triangle_mesh::corners_of(vertices, triangles, index))
 }
@@ -45,8 +45,7 @@ pub fn boxes_hold(within: bool, vertices: &[f64], triangles: &[u32]) -> bool
 // Whether a triangle is looked at: where not all vertices are in range each is, else one whose box touches the segment's.
 fn looked_at(
     within: bool,
-    coded: bool,
-    codes: &[u64],
+    codes: Option<&[u64]>,
     bounds: Aabb,
     vertices: &[f64],
     triangles: &[u32],
@@ -54,17 +53,14 @@ fn looked_at(
 ) -> bool
     requires { ((3 * index + 3 ≤ length triangles.now)
         × (corners_inside (thirds (length vertices.now)) triangles.now index ≡ true))
-        × (coded ≡ true → Coded bounds vertices.now codes.now) }
+        × (IfSome codes (λ told. Coded bounds vertices.now told.now)) }
     ensures { result ≡ (not within
         || touches (corners_box (corners_of vertices.now triangles.now index)) bounds) }
 {
     if !within {
         return true;
     }
-    if coded {
-        return boxes::codes_touch(codes, bounds, vertices, triangles, index);
-    }
-    boxes::triangle_touches(false, codes, bounds, vertices, triangles, index)
+    boxes::triangle_touches(codes, bounds, vertices, triangles, index)
 }
 
 // The winner of all triangles in one pass, without its normal. An index past the vertices ends it with 5, whatever was found before it.
@@ -74,26 +70,23 @@ pub fn winner_of(
     vertices: &[f64],
     triangles: &[u32],
     within: bool,
-    coded: bool,
-    codes: &[u64],
+    codes: Option<&[u64]>,
 ) -> Outcome
     requires { (length triangles.now ≤ 196608) × ((ViewSized line) × ((BoxesHold (mesh vertices.now triangles.now))
-        × ((within ≡ true → AllWithin vertices.now) × (coded ≡ true → Coded bounds vertices.now codes.now)))) }
-    ensures { (ray : AnyRay) → Bounded ray line bounds → Won ray (mesh vertices.now triangles.now) result }
+        × ((within ≡ true → AllWithin vertices.now) × (IfSome codes (λ told. Coded bounds vertices.now told.now))))) }
+    ensures { (ray : AnyRay) → Bounded ray line bounds → Won ray (mesh vertices.now triangles.now) (says_outcome result) }
 {
     let limit = vertices.len() / 3;
     let count = triangles.len() / 3;
     let mut notes = summary::empty();
-    let mut i: usize = 0;
-    while i < count {
+    for i in 0..count {
         if !triangle_mesh::corners_inside(limit, triangles, i) {
-            return Outcome::Refused(answer::OUT_OF_BOUNDS);
+            return Err(Refusal::OutOfBounds);
         }
-        if looked_at(within, coded, codes, bounds, vertices, triangles, i) {
+        if looked_at(within, codes, bounds, vertices, triangles, i) {
             let reach = reach_of(line, vertices, triangles, i);
             notes = summary::note(notes, i as u32, reach);
         }
-        i += 1;
     }
     summary::winner(notes)
 }

@@ -8,11 +8,11 @@ use lib.ListN.{length, take, drop}
 use Rattle.lists.specs.Lists.{sorted}
 use Rattle.casts.specs.Answer.{Answer, no_room}
 use Rattle.nearest_hit.specs.Summary.{winner, says_nearest_so_far}
-use Rattle.nearest_hit.specs.declared.summary.Outcome.{Outcome as Won}
-use Rattle.nearest_hit.specs.declared.summary.Outcome.TheVariants.{Nobody, Refused as RefusedBy, NearestHit as HitBy}
-use Rattle.tree_query.specs.Query.{says_listed}
-use Rattle.tree_query.specs.declared.query.Listed.{Listed}
-use Rattle.tree_query.specs.declared.query.Listed.TheVariants.{Count, Refused}
+use Rattle.nearest_hit.specs.Summary.{Outcome as Won, Nobody, RefusedBy, NearestHit as HitBy, says_outcome}
+use Rattle.nearest_hit.specs.declared.summary.IndexedReach.{IndexedReach}
+use Rattle.tree_query.specs.Query.{says_listed, refused as refused_with}
+use Rattle.casts.specs.declared.answer.Refusal.{Refusal}
+use Rattle.std.specs.Prelude.{Option, Some, None, Result, Ok, Err}
 use Rattle.depth_sort.specs.SortRows.{Keyed, Ordered}
 use Rattle.mesh_hits.specs.HitArea.{hit_area, Outcome, hits_of, in_order, numbers_of, refused_at}
 use Rattle.mesh_hits.specs.HitListing.{fitted, listing_of}
@@ -23,30 +23,29 @@ use Rattle.mesh_hits.proofs.ListedHits.{refused_alike, hits_ready, fits_as_liste
 use Rattle.mesh_hits.proofs.ListedHits.{refusal_lists, nobody_lists, hit_lists}
 
 module _ (answer : ℕ → Answer) (n : ℕ) where
-  abbrev after : Listed → List ℕ → List Float → Outcome
+  abbrev after : Result ℕ Refusal → List ℕ → List Float → Outcome
   after r indices numbers = record { answer = says_listed r; area = hit_area indices numbers }
 
-  pub arranged_as : (whole whole' : Outcome) (r : Listed) (indices : List ℕ) (numbers : List Float) → whole ≡ whole'
+  pub arranged_as : (whole whole' : Outcome) (r : Result ℕ Refusal) (indices : List ℕ) (numbers : List Float) → whole ≡ whole'
       → Arranged answer n whole r indices numbers → Arranged answer n whole' r indices numbers
   arranged_as whole whole' r indices numbers e a = subst (λ (o : Outcome). Arranged answer n o r indices numbers) e a
 
   -- ---- a refusal
-  pub refusal_arranged : (number : ℕ) (whole o : Outcome) (r : Listed) (indices : List ℕ) (numbers : List Float)
-      → after r indices numbers ≡ o → o ≡ whole → o.answer ≡ says_listed (Refused number)
+  pub refusal_arranged : (number : ℕ) (whole o : Outcome) (r : Result ℕ Refusal) (indices : List ℕ) (numbers : List Float)
+      → after r indices numbers ≡ o → o ≡ whole → o.answer ≡ refused_with number
       → Arranged answer n whole r indices numbers
-  refusal_arranged number whole o (Count k) indices numbers e f g =
+  refusal_arranged number whole o (Ok k) indices numbers e f g =
       absurd (refused_not_count k number (sym g ∙ sym (ap (λ (z : Outcome). z.answer) e)))
-  refusal_arranged number whole o (Refused m) indices numbers e f g = record { stands = e ∙ f }
+  refusal_arranged number whole o (Err m) indices numbers e f g = record { stands = e ∙ f }
 
-  module _ (whole : Outcome) (r : Listed) (indices : List ℕ) (numbers : List Float) (a : Arranged answer n whole r indices numbers) where
-    pub refused_whole : (number : ℕ) → r ≡ Refused number → after r indices numbers ≡ whole
-    refused_whole number e =
-        ap (λ (z : Listed). after z indices numbers) e
-        ∙ (subst (λ (z : Listed). Arranged answer n whole z indices numbers) e a).stands
+  module _ (whole : Outcome) (r : Result ℕ Refusal) (indices : List ℕ) (numbers : List Float) (a : Arranged answer n whole r indices
+      numbers) where
+    pub refused_whole : (refusal : Refusal) → r ≡ Err refusal → after (Err refusal) indices numbers ≡ whole
+    refused_whole refusal e = (subst (λ (z : Result ℕ Refusal). Arranged answer n whole z indices numbers) e a).stands
 
-    module _ (k : ℕ) (e : r ≡ Count k) where
-      counted : ArrangedBy answer n whole (Count k) indices numbers
-      counted = (subst (λ (z : Listed). Arranged answer n whole z indices numbers) e a).stands
+    module _ (k : ℕ) (e : r ≡ Ok k) where
+      counted : ArrangedBy answer n whole (Ok k) indices numbers
+      counted = (subst (λ (z : Result ℕ Refusal). Arranged answer n whole z indices numbers) e a).stands
 
       -- the hits stand in their places
       pub arranged_places : HitsInPlaces answer n indices k numbers
@@ -54,12 +53,12 @@ module _ (answer : ℕ → Answer) (n : ℕ) where
 
       -- .. and with their normals the listing is whole
       pub arranged_whole : (final : List Float) → final ≡ numbers_of answer (take k indices) ++ drop (4 * k) numbers
-          → after (Count k) indices final ≡ whole
+          → after (Ok k) indices final ≡ whole
       arranged_whole = counted.1
 
   -- ---- the hits fitted to the places
   module _ (hits places : ℕ) (work : ℕ) (indices : List ℕ) (numbers : List Float) where
-    pub fit_refused : places < hits → (r : Listed) (indices' : List ℕ) (numbers' : List Float)
+    pub fit_refused : places < hits → (r : Result ℕ Refusal) (indices' : List ℕ) (numbers' : List Float)
         → after r indices' numbers' ≡ refused_at no_room (hit_area indices numbers)
         → Arranged answer n (fit_rows answer hits places (hit_area indices numbers)) r indices' numbers'
     fit_refused more r indices' numbers' e =
@@ -70,7 +69,7 @@ module _ (answer : ℕ → Answer) (n : ℕ) where
     module _ (few : hits ≤ places) (ready : Ready answer n hits indices numbers work) (exit : List ℕ) (exitN : List Float)
         (o : (depth : ℕ → Float) → Keyed depth (take hits indices) (take (4 * hits) numbers) → Ordered depth (take hits indices) exit exitN)
         (long : length exit ≡ length (take hits indices)) (longN : length exitN ≡ length (take (4 * hits) numbers)) where
-      pub fit_sorted : Arranged answer n (fit_rows answer hits places (hit_area indices numbers)) (Count hits) (exit ++ drop hits indices)
+      pub fit_sorted : Arranged answer n (fit_rows answer hits places (hit_area indices numbers)) (Ok hits) (exit ++ drop hits indices)
           (exitN ++ drop (4 * hits) numbers)
       fit_sorted = record {
         stands = (
@@ -95,7 +94,7 @@ module _ (answer : ℕ → Answer) (n : ℕ) where
     gathered_room few = let r = gathered_ready few in record { inside = r.inside; fits = r.fits; room = r.room }
 
     module _ (outcome : Won) (w : outcome ≡ winner (says_nearest_so_far gathered.notes)) where
-      pub arranged_refusal : (number : ℕ) → outcome ≡ RefusedBy number → (r : Listed) (indices' : List ℕ) (numbers' : List Float)
+      pub arranged_refusal : (number : ℕ) → outcome ≡ RefusedBy number → (r : Result ℕ Refusal) (indices' : List ℕ) (numbers' : List Float)
           → after r indices' numbers' ≡ refused_at number (hit_area indices numbers) → Arranged answer n whole r indices' numbers'
       arranged_refusal number e r indices' numbers' f =
           refusal_arranged number whole (refused_at number (hit_area indices numbers)) r indices' numbers' f
@@ -104,28 +103,35 @@ module _ (answer : ℕ → Answer) (n : ℕ) where
           number e)
           refl
 
-      abbrev Fitted : Listed → List ℕ → List Float → Type 0
+      abbrev Fitted : Result ℕ Refusal → List ℕ → List Float → Type 0
       Fitted r indices' numbers' =
           Arranged answer n (fit_rows answer gathered.hits places (hit_area indices numbers)) r indices' numbers'
 
-      as_listed : (r : Listed) (indices' : List ℕ) (numbers' : List Float) → Fitted r indices' numbers'
+      as_listed : (r : Result ℕ Refusal) (indices' : List ℕ) (numbers' : List Float) → Fitted r indices' numbers'
           → Arranged answer n (fitted answer (hit_area indices₀ numbers₀) (in_order answer (hits_of answer (sorted l)))) r indices' numbers'
       as_listed r indices' numbers' a =
           arranged_as _ _ r indices' numbers'
           (fits_as_listed answer l work g.lent n g.below indices₀ numbers₀ places g.places_are gathered.hits indices numbers
           g.long g.numbers_long g.stored _ refl) a
 
-      pub arranged_nobody : outcome ≡ Nobody → (r : Listed) (indices' : List ℕ) (numbers' : List Float) → Fitted r indices' numbers'
+      pub arranged_nobody : outcome ≡ Nobody → (r : Result ℕ Refusal) (indices' : List ℕ) (numbers' : List Float)
+          → Fitted r indices' numbers'
           → Arranged answer n whole r indices' numbers'
       arranged_nobody e r indices' numbers' a =
           arranged_as _ _ r indices' numbers'
           (nobody_lists answer g.at_numbers l (says_nearest_so_far gathered.notes) g.noted outcome w (hit_area indices₀ numbers₀) e)
           (as_listed r indices' numbers' a)
 
-      pub arranged_hit : (index : ℕ) (distance : Float) → outcome ≡ HitBy index distance → (r : Listed) (indices' : List ℕ)
+      pub arranged_hit : (index : ℕ) (distance : Float) → outcome ≡ HitBy index distance → (r : Result ℕ Refusal) (indices' : List ℕ)
           (numbers' : List Float) → Fitted r indices' numbers' → Arranged answer n whole r indices' numbers'
       arranged_hit index distance e r indices' numbers' a =
           arranged_as _ _ r indices' numbers'
           (hit_lists answer g.at_numbers l (says_nearest_so_far gathered.notes) g.noted outcome w (hit_area indices₀ numbers₀) n
           g.below index distance e)
           (as_listed r indices' numbers' a)
+
+      -- none refuses, whether one is hit or not
+      pub arranged_found : (found : Option IndexedReach) → outcome ≡ says_outcome (Ok found) → (r : Result ℕ Refusal)
+          (indices' : List ℕ) (numbers' : List Float) → Fitted r indices' numbers' → Arranged answer n whole r indices' numbers'
+      arranged_found None e = arranged_nobody e
+      arranged_found (Some reached) e = arranged_hit reached.index reached.distance e

@@ -9,9 +9,8 @@ use lib.Ieee.{Float}
 use lib.ListN.{length, take}
 use lib.Seq.{length-take-le, take-suc}
 use Rattle.casts.specs.Answer.{Answer}
-use Rattle.casts.specs.Reach.{reach_of}
+use Rattle.casts.specs.Reach.{Reach, reach_of}
 use Rattle.nearest_hit.specs.Summary.{Summary, nothing, note_of, summary_from}
-use Rattle.casts.specs.declared.answer.Reach.{Reach}
 use Rattle.lists.specs.Lists.{keep}
 use Rattle.tree.specs.Layout.{word_at}
 use Rattle.mesh.proofs.Folding.{Folding, folding_begins, folding_goes, folding_ends}

@@ -11,12 +11,10 @@ use lib.ListN.{length, take, drop, length-append, get_or-append}
 use lib.Seq.{length-take-le, take_at, drop_at, get_or-take}
 use Rattle.casts.specs.Answer.{Answer, hit, none, refused, no_room}
 use Rattle.nearest_hit.specs.Nearest.{Indexed, no_hit, next_of}
-use Rattle.casts.specs.Reach.{reach_of}
+use Rattle.casts.specs.Reach.{At, reach_of}
 use Rattle.nearest_hit.specs.Summary.{Summary, nothing, summary_from, winner}
-use Rattle.casts.specs.declared.answer.Reach.TheVariants.{At}
 use Rattle.casts.proofs.AnswerLists.{HitsAreNumbers}
-use Rattle.nearest_hit.specs.declared.summary.Outcome.{Outcome as Won}
-use Rattle.nearest_hit.specs.declared.summary.Outcome.TheVariants.{Nobody, Refused, NearestHit as HitBy}
+use Rattle.nearest_hit.specs.Summary.{Outcome as Won, Nobody, RefusedBy, NearestHit as HitBy}
 use Rattle.lists.specs.Lists.{count, sorted, all_below}
 use Rattle.nearest_hit.proofs.NextLaws.{miss_not_at, refused_not_at}
 use Rattle.tree.specs.Layout.{word_at}
@@ -36,7 +34,7 @@ use Rattle.mesh_hits.proofs.PlaceLaws.{at_counted}
 -- ---- what the winner says
 module _ (answer : ℕ → Answer) (numbers : HitsAreNumbers answer) (l : List ℕ) (notes : Summary)
     (h : notes ≡ summary_from answer nothing l) (outcome : Won) (w : outcome ≡ winner notes) (area : HitArea) where
-  pub refusal_lists : (number : ℕ) → outcome ≡ Refused number → refused_at number area ≡ listing_of answer area (sorted l)
+  pub refusal_lists : (number : ℕ) → outcome ≡ RefusedBy number → refused_at number area ≡ listing_of answer area (sorted l)
   unfolding listing_of after_refusals
   refusal_lists number e = ap (λ (z : Indexed). after_refusals z area (fitted answer area (in_order answer (hits_of answer (sorted l)))))
       (refusal_wins answer numbers l notes h outcome w number e)

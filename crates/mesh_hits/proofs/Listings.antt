@@ -22,8 +22,7 @@ use Rattle.tree.specs.Layout.{Tree}
 use Rattle.tree.specs.Mesh.{Mesh, thirds, lengths_admitted, triangle_answer}
 use Rattle.tree_walk.specs.Walk.{Walking, walking, broken, ended, walk_of}
 use Rattle.tree_walk.specs.Areas.{listed}
-use Rattle.tree_walk.specs.declared.step.Filled.{Filled}
-use Rattle.tree_walk.specs.declared.step.Filled.TheVariants.{Count, Broken}
+use Rattle.std.specs.Prelude.{Option, Some, None}
 use Rattle.tree_query.specs.Query.{walk_fits}
 use Rattle.mesh.specs.MeshCast.{shape_admitted, room_for}
 use Rattle.mesh_hits.specs.HitArea.{HitArea, Outcome, refused_at}
@@ -56,7 +55,7 @@ module _ (r : Ray) (triangles : List ℕ) (pose : List Float) (t : Tree) (area :
   unfolding mesh_listing
   listing_overflow h o e = e ∙ simp h
 
-  module _ (v : ray_admitted r ≡ true) (f : finite_vec (segment_end r) ≡ true) (box : Aabb) (b : box ≡ segment_box r) (x : Filled)
+  module _ (v : ray_admitted r ≡ true) (f : finite_vec (segment_end r) ≡ true) (box : Aabb) (b : box ≡ segment_box r) (x : Option ℕ)
       (exit : List ℕ)
       (w : ended t n box (listed [] x exit) ≡ walk_of t n box) where
     valid : valid_box box ≡ true
@@ -66,18 +65,18 @@ module _ (r : Ray) (triangles : List ℕ) (pose : List Float) (t : Tree) (area :
     unfolding mesh_listing
     over = simp (f, sym b, valid)
 
-    pub listing_broken : x ≡ Broken → (o : Outcome) → o ≡ refused_at out_of_bounds area → o ≡ mesh_listing r triangles pose t area
+    pub listing_broken : x ≡ None → (o : Outcome) → o ≡ refused_at out_of_bounds area → o ≡ mesh_listing r triangles pose t area
     unfolding over_walk ended
     listing_broken e o a =
-        let w' : broken ≡ walk_of t n box = subst (λ (y : Filled). ended t n box (listed [] y exit) ≡ walk_of t n box) e w in
+        let w' : broken ≡ walk_of t n box = subst (λ (y : Option ℕ). ended t n box (listed [] y exit) ≡ walk_of t n box) e w in
         a ∙ ap (over_walk (triangle_answer r pose triangles) area) w' ∙ over
 
-    pub listing_walked : (k : ℕ) (o : Outcome) → x ≡ Count k
+    pub listing_walked : (k : ℕ) (o : Outcome) → x ≡ Some k
         → o ≡ listing_of (triangle_answer r pose triangles) area (sorted (take k exit)) → o ≡ mesh_listing r triangles pose t area
     unfolding over_walk ended
     listing_walked k o e a =
         let w' : walking [] (sorted (take k exit)) ≡ walk_of t n box = subst
-        (λ (y : Filled). ended t n box (listed [] y exit) ≡ walk_of t n box) e w in
+        (λ (y : Option ℕ). ended t n box (listed [] y exit) ≡ walk_of t n box) e w in
         a ∙ ap (over_walk (triangle_answer r pose triangles) area) w' ∙ over
 
 -- refusals 1 to 4, in their order

@@ -5,11 +5,10 @@ use mathlib.Core.List.{List, [], ◌∷◌, ◌++◌, append-nil, append_assoc}
 use native.Mathlib.Omega.{arith}
 use native.Mathlib.Numerals.{add-one}
 use lib.Ieee.{Float, nan}
-use lib.ListN.{length, take, drop, length-append}
-use lib.Seq.{sets, sets-eq, take-suc, take_at, drop-append-add, drop-drop, get_or-append-add, get_or-drop}
+use lib.ListN.{length, take, drop, set, length-append}
+use lib.Seq.{get_or-set_other, sets, sets-eq, take-suc, take_at, drop-append-add, drop-drop, get_or-append-add, get_or-drop}
 use Rattle.casts.specs.Answer.{Answer, hit, none, refused}
-use Rattle.casts.specs.Reach.{reach_of}
-use Rattle.casts.specs.declared.answer.Reach.TheVariants.{At}
+use Rattle.casts.specs.Reach.{At, reach_of}
 use Rattle.nearest_hit.proofs.NextLaws.{miss_not_at, refused_not_at}
 use Rattle.tree.specs.Layout.{number_at, word_at}
 use Rattle.mesh_hits.specs.HitArea.{place_of, numbers_of}
@@ -21,6 +20,21 @@ unfolding reach_of place_of
 place_of_four (hit normal distance) d h = refl
 place_of_four none d h = absurd (miss_not_at d h)
 place_of_four (refused number) d h = absurd (refused_not_at number d h)
+
+-- it stays within its four places
+pub put_before : (a : Answer) (numbers : List Float) (place j : ℕ) → place + 4 ≤ j
+    → number_at (sets numbers place (place_of a)) j ≡ number_at numbers j
+unfolding place_of
+put_before (hit normal distance) numbers place j h =
+    let one = set numbers place distance in
+    let two = set one (suc place) normal.x in
+    let three = set two (suc (suc place)) normal.y in
+    get_or-set_other three (suc (suc (suc place))) j normal.z nan (λ e. omega arith)
+    ∙ get_or-set_other two (suc (suc place)) j normal.y nan (λ e. omega arith)
+    ∙ get_or-set_other one (suc place) j normal.x nan (λ e. omega arith)
+    ∙ get_or-set_other numbers place j distance nan (λ e. omega arith)
+put_before none numbers place j h = refl
+put_before (refused number) numbers place j h = refl
 
 pub record Putting (answer : ℕ → Answer) (indices : List ℕ) (k : ℕ) (numbers₀ numbers : List Float) (i : ℕ) : Type 0 where
   pub within : i ≤ k

@@ -12,10 +12,7 @@ use Rattle.vectors.specs.Vector.{finite_vec, sub_of, cross_of, dot_of, checked_d
 use Rattle.geometry.specs.Box.{valid_box}
 use Rattle.geometry.specs.Segment.{ray_admitted, segment_end, segment_box}
 use Rattle.vectors.specs.declared.vec3.Vec3.{Vec3}
-use Rattle.vectors.specs.declared.vec3.Checked.{Checked}
-use Rattle.vectors.specs.declared.vec3.Checked.TheVariants.{Value, Overflow}
-use Rattle.vectors.specs.declared.vec3.Normalized.{Normalized}
-use Rattle.vectors.specs.declared.vec3.Normalized.TheVariants.{Unit as UnitOf, Degenerate}
+use Rattle.std.specs.Prelude.{Option, Some, None}
 use Rattle.geometry.specs.declared.ray.Ray.{Ray}
 use Rattle.casts.specs.Answer.{Answer, hit, none, refused, with_value, with_normal, no_normal}
 use Rattle.casts.specs.Answer.{invalid_input, bad_shape, no_room, wrong_pose, out_of_bounds, overflow}
@@ -58,10 +55,10 @@ pub normal_small : (r : Ray) (a b : Vec3) (distance : Float) → Small (triangle
 unfolding triangle_normal
 normal_small r a b distance = go (try_normalize (cross_of a b))
   where
-    go : (n : Normalized) → Small (with_normal n no_normal
+    go : (n : Option Vec3) → Small (with_normal n no_normal
         (λ (normal : Vec3). hit (facing normal (dot_of r.direction normal)) distance))
-    go (UnitOf normal) = hit_small (facing normal (dot_of r.direction normal)) distance
-    go Degenerate = refused_small no_normal (omega arith)
+    go (Some normal) = hit_small (facing normal (dot_of r.direction normal)) distance
+    go None = refused_small no_normal (omega arith)
 
 above_small : (r : Ray) (offset a b : Vec3) (inverse u : Float) → Small (triangle_above r offset a b inverse u)
 unfolding triangle_above
@@ -88,14 +85,14 @@ pub triangle_small : (r : Ray) (v w u : Vec3) → Small (triangle_of r v w u)
 unfolding triangle_of
 triangle_small r v w u = go (checked_dot (sub_of w v) (cross_of r.direction (sub_of u v)))
   where
-    go : (c : Checked) → Small (with_value c (λ (determinant : Float).
+    go : (c : Option Float) → Small (with_value c (λ (determinant : Float).
         cond (flat determinant (sub_of w v) (sub_of u v)) none
         (triangle_at r (sub_of r.origin v) (sub_of w v) (sub_of u v) (cross_of r.direction (sub_of u v)) determinant)))
-    go (Value d) =
+    go (Some d) =
         either_small (flat d (sub_of w v) (sub_of u v)) none
         (triangle_at r (sub_of r.origin v) (sub_of w v) (sub_of u v) (cross_of r.direction (sub_of u v)) d) none_small
         (at_small r (sub_of r.origin v) (sub_of w v) (sub_of u v) (cross_of r.direction (sub_of u v)) d)
-    go Overflow = refused_small overflow (omega arith)
+    go None = refused_small overflow (omega arith)
 
 pub answer_small : (r : Ray) (pose : List Float) (triangles : List ℕ) (i : ℕ) → Small (triangle_answer r pose triangles i)
 unfolding triangle_answer

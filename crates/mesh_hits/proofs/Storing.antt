@@ -9,9 +9,7 @@ use lib.Ieee.{Float, nan}
 use lib.ListN.{length, take, drop, set, length-set, length-append}
 use lib.Seq.{length-take-le, get_or-take, get_or-set_same, get_or-set_other, drop-set-lt, drop-drop}
 use Rattle.casts.specs.Answer.{Answer, hit, none, refused}
-use Rattle.casts.specs.Reach.{reach_of}
-use Rattle.casts.specs.declared.answer.Reach.{Reach}
-use Rattle.casts.specs.declared.answer.Reach.TheVariants.{At, Miss, Refused}
+use Rattle.casts.specs.Reach.{Reach, At, Miss, Refused, reach_of}
 use Rattle.lists.specs.Lists.{keep}
 use Rattle.nearest_hit.proofs.NextLaws.{miss_not_at, refused_not_at, same_reach}
 use Rattle.tree.specs.Layout.{number_at, word_at}
@@ -42,6 +40,20 @@ module _ (index : ℕ) (reach : Reach) (hits places : ℕ) (indices : List ℕ) 
       missed = λ miss. absurd (miss distance h);
       hit = λ d e. (refl, λ some. (refl, ap (set numbers (4 * hits)) (same_reach distance d (sym h ∙ e))));
     }
+
+-- at most one more hit
+pub stored_few : (index : ℕ) (reach : Reach) (hits places : ℕ) (indices₀ : List ℕ) (numbers₀ : List Float) (next : ℕ)
+    (indices : List ℕ) (numbers : List Float) → StoredNext index reach hits places indices₀ numbers₀ next indices numbers
+    → next ≤ hits + 1
+stored_few index (At distance) hits places indices₀ numbers₀ next indices numbers s =
+    let same = (s.hit distance refl).0 in
+    omega arith
+stored_few index Miss hits places indices₀ numbers₀ next indices numbers s =
+    let same = (s.missed (λ d e. miss_not_at d e)).0 in
+    omega arith
+stored_few index (Refused number) hits places indices₀ numbers₀ next indices numbers s =
+    let same = (s.missed (λ d e. refused_not_at number d e)).0 in
+    omega arith
 
 -- ---- the hits of a longer list
 module _ (answer : ℕ → Answer) where

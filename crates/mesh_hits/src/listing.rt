@@ -9,12 +9,11 @@ ghost use Rattle.mesh_hits.specs.Listing.{mesh_listing};
 ghost use Rattle.mesh_hits.specs.Promise.{Lists};
 
 use crate::{places, sorted};
-use casts::answer;
+use casts::answer::Refusal;
 use geometry::ray::Ray;
 use mesh::cast;
 use tree_query::query::Listed;
 use tree_query::{query, walk};
-use tree_walk::step::Filled;
 
 // The listing once refusals 1 to 4 have let it pass; the list and the stack may hold anything afterwards.
 fn mesh_listing(
@@ -40,7 +39,7 @@ fn mesh_listing(
 {
     let end = ray.segment_end();
     if !end.is_finite() {
-        return places::refuse(answer::OVERFLOW, indices, numbers);
+        return places::refuse(Refusal::Overflow, indices, numbers);
     }
     // With both ends finite the box is valid, so that it needs no test.
     let bounds = ray.segment_box(end);
@@ -56,8 +55,8 @@ fn mesh_listing(
         list,
         stack,
     );
-    let Filled::Count(found) = walked else {
-        return places::refuse(answer::OUT_OF_BOUNDS, indices, numbers);
+    let Some(found) = walked else {
+        return places::refuse(Refusal::OutOfBounds, indices, numbers);
     };
     sorted::list_hits(ray, pose, triangles, list, found, indices, numbers)
 }
@@ -88,10 +87,10 @@ pub fn ray_mesh_all(
         (record { answer = says_listed result; area = hit_area indices.new numbers.new }) }
 {
     if !ray.validate() {
-        return Listed::Refused(answer::INVALID_INPUT);
+        return Err(Refusal::InvalidInput);
     }
     if !cast::shape_admitted(vertices.len(), triangles.len(), pose.len(), nodes) {
-        return Listed::Refused(answer::BAD_SHAPE);
+        return Err(Refusal::BadShape);
     }
     let count = triangles.len() / 3;
     if !query::walk_fits(
@@ -104,10 +103,10 @@ pub fn ray_mesh_all(
         list.len(),
         stack.len(),
     ) {
-        return Listed::Refused(answer::NO_ROOM);
+        return Err(Refusal::NoRoom);
     }
     if pose.len() != vertices.len() {
-        return Listed::Refused(answer::WRONG_POSE);
+        return Err(Refusal::WrongPose);
     }
     mesh_listing(
         ray,

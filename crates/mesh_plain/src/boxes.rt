@@ -1,4 +1,4 @@
-ghost use Rattle.std.specs.Prelude.{◌≡◌, true, false, ◌+◌, ◌*◌, ◌<◌, ◌≤◌, length};
+ghost use Rattle.std.specs.Prelude.{◌≡◌, true, false, ◌+◌, ◌*◌, ◌<◌, ◌≤◌, length, IfSome};
 ghost use Rattle.geometry.specs.Box.{corners_box, touches};
 ghost use Rattle.tree.specs.Mesh.{mesh, thirds, corners_inside, corners_of};
 ghost use Rattle.mesh_plain.specs.PlainCast.{triangles_fit};
@@ -20,10 +20,8 @@ pub fn all_finite(vertices: &[f64]) -> bool
         y: 0.0,
         z: 0.0,
     };
-    let mut i: usize = 0;
-    while i < limit {
+    for i in 0..limit {
         sum = sum.add(layout::vector_at(vertices, 3 * i));
-        i += 1;
     }
     basic::is_finite(sum.x + sum.y + sum.z)
 }
@@ -35,8 +33,7 @@ pub fn all_fit(vertices: &[f64], triangles: &[u32]) -> bool
 {
     let limit = vertices.len() / 3;
     let count = triangles.len() / 3;
-    let mut i: usize = 0;
-    while i < count {
+    for i in 0..count {
         if !triangle_mesh::corners_inside(limit, triangles, i) {
             return false;
         }
@@ -44,7 +41,6 @@ pub fn all_fit(vertices: &[f64], triangles: &[u32]) -> bool
         if !around.is_valid() {
             return false;
         }
-        i += 1;
     }
     true
 }
@@ -62,6 +58,7 @@ pub fn boxes_hold(vertices: &[f64], triangles: &[u32]) -> bool
 }
 
 // Whether one of three numbers is at most a limit; NaN is not.
+// Its fellow below asks the other comparison: a function over the comparison would be no plainer than three of them.
 fn one_at_most(a: f64, b: f64, c: f64, limit: f64) -> bool
     ensures { result ≡ one_at_most a b c limit }
 {
@@ -97,8 +94,9 @@ fn side_touches(a: f64, b: f64, c: f64, from: f64, to: f64) -> bool
     one_at_least(a, b, c, from)
 }
 
-// Whether the box of three corners touches another.
-fn corners_touch(corners: [Vec3; 3], bounds: Aabb) -> bool
+// Whether the box of three corners touches another. It is compiled into each of its users, since it runs once a triangle.
+#[inline(always)]
+pub fn corners_touch(corners: [Vec3; 3], bounds: Aabb) -> bool
     ensures { result ≡ touches (corners_box corners) bounds }
 {
     let first = corners[0];
@@ -131,20 +129,18 @@ fn code_of(bounds: Aabb, vertex: Vec3) -> u64
     (z * 4 + y) * 4 + x
 }
 
-// On which sides of a box each vertex lies, where there is a place for each; else nothing is told.
-pub fn put_codes(codes: &mut [u64], bounds: Aabb, vertices: &[f64]) -> bool
-    ensures { result ≡ true → Coded bounds vertices.now codes.new }
+// On which sides of a box each vertex lies, where there is a place for each.
+pub fn put_codes<'a>(codes: &'a mut [u64], bounds: Aabb, vertices: &[f64]) -> Option<&'a [u64]>
+    ensures { IfSome result (λ told. Coded bounds vertices.now told.now) }
 {
     let limit = vertices.len() / 3;
     if limit > codes.len() {
-        return false;
+        return None;
     }
-    let mut i: usize = 0;
-    while i < limit {
+    for i in 0..limit {
         codes[i] = code_of(bounds, layout::vector_at(vertices, 3 * i));
-        i += 1;
     }
-    true
+    Some(codes)
 }
 
 // Whether a triangle's box touches, by its vertices' codes: it does not where all three lie on one side.
@@ -165,10 +161,9 @@ pub fn codes_touch(
     first & second & third == 0
 }
 
-// The same, by the codes if they are told, which callers then show, else by the corners.
+// The same, by the codes where there are any, else by the corners.
 pub fn triangle_touches(
-    told: bool,
-    codes: &[u64],
+    codes: Option<&[u64]>,
     bounds: Aabb,
     vertices: &[f64],
     triangles: &[u32],
@@ -176,14 +171,14 @@ pub fn triangle_touches(
 ) -> bool
     requires { ((3 * index + 3 ≤ length triangles.now)
         × (corners_inside (thirds (length vertices.now)) triangles.now index ≡ true))
-        × (told ≡ true → Coded bounds vertices.now codes.now) }
+        × (IfSome codes (λ told. Coded bounds vertices.now told.now)) }
     ensures { result ≡ touches (corners_box (corners_of vertices.now triangles.now index)) bounds }
 {
-    if told {
-        return codes_touch(codes, bounds, vertices, triangles, index);
+    match codes {
+        Some(told) => codes_touch(told, bounds, vertices, triangles, index),
+        None => corners_touch(
+            triangle_mesh::corners_of(vertices, triangles, index),
+            bounds,
+        ),
     }
-    corners_touch(
-        triangle_mesh::corners_of(vertices, triangles, index),
-        bounds,
-    )
 }

@@ -1,4 +1,4 @@
-ghost use Rattle.std.specs.Prelude.{◌≡◌, true, ◌≤◌, length};
+ghost use Rattle.std.specs.Prelude.{◌≡◌, true, ◌≤◌, length, IfSome};
 ghost use Rattle.geometry.specs.Segment.{ray_admitted};
 ghost use Rattle.nearest_hit.specs.Nearest.{says_indexed};
 ghost use Rattle.tree.specs.Mesh.{lengths_admitted, mesh};
@@ -6,11 +6,10 @@ ghost use Rattle.mesh_plain.specs.Boxes.{BoxesHold, Coded};
 ghost use Rattle.mesh_plain.specs.PlainCast.{over_triangles, plain_cast, ray_mesh_plain, AgreesWithTrees};
 
 use crate::boxes;
-use casts::answer;
+use casts::answer::Refusal;
 use geometry::aabb::Aabb;
 use geometry::ray::Ray;
 use nearest_hit::deferred;
-use nearest_hit::deferred::Near;
 use nearest_hit::nearest::IndexedCast;
 use tree::mesh as triangle_mesh;
 
@@ -20,26 +19,23 @@ fn cast_all(
     bounds: Aabb,
     vertices: &[f64],
     triangles: &[u32],
-    told: bool,
-    codes: &[u64],
+    codes: Option<&[u64]>,
 ) -> IndexedCast
     requires { (length triangles.now ≤ 196608) × ((BoxesHold (mesh vertices.now triangles.now))
-        × (told ≡ true → Coded bounds vertices.now codes.now)) }
+        × (IfSome codes (λ told. Coded bounds vertices.now told.now))) }
     ensures { says_indexed result ≡ over_triangles ray bounds (mesh vertices.now triangles.now) }
 {
     let limit = vertices.len() / 3;
     let count = triangles.len() / 3;
-    let mut best = Near::None;
-    let mut i: usize = 0;
-    while i < count {
+    let mut best = Ok(None);
+    for i in 0..count {
         if !triangle_mesh::corners_inside(limit, triangles, i) {
-            return IndexedCast::Refused(answer::OUT_OF_BOUNDS);
+            return Err(Refusal::OutOfBounds);
         }
-        if boxes::triangle_touches(told, codes, bounds, vertices, triangles, i) {
+        if boxes::triangle_touches(codes, bounds, vertices, triangles, i) {
             let corners = triangle_mesh::corners_of(vertices, triangles, i);
             best = deferred::next_deferred(best, i as u32, ray, corners);
         }
-        i += 1;
     }
     deferred::with_normal(ray, best)
 }
@@ -50,11 +46,11 @@ fn over_triangles(ray: Ray, bounds: Aabb, vertices: &[f64], triangles: &[u32]) -
     ensures { says_indexed result ≡ over_triangles ray bounds (mesh vertices.now triangles.now) }
 {
     if !boxes::boxes_hold(vertices, triangles) {
-        return IndexedCast::Refused(answer::OUT_OF_BOUNDS);
+        return Err(Refusal::OutOfBounds);
     }
     let mut codes = [0u64; 32];
     let told = boxes::put_codes(&mut codes, bounds, vertices);
-    cast_all(ray, bounds, vertices, triangles, told, &codes)
+    cast_all(ray, bounds, vertices, triangles, told)
 }
 
 // The cast once refusals 1 and 2 have let it pass.
@@ -64,7 +60,7 @@ pub fn plain_cast(ray: Ray, vertices: &[f64], triangles: &[u32]) -> IndexedCast
 {
     let end = ray.segment_end();
     if !end.is_finite() {
-        return IndexedCast::Refused(answer::OVERFLOW);
+        return Err(Refusal::Overflow);
     }
     // With both ends finite the box is valid, so that it needs no test.
     let bounds = ray.segment_box(end);
@@ -78,10 +74,10 @@ pub fn ray_mesh_plain(ray: Ray, vertices: &[f64], triangles: &[u32]) -> IndexedC
     ensures agrees_with_trees { AgreesWithTrees ray (mesh vertices.now triangles.now) (says_indexed result) }
 {
     if !ray.validate() {
-        return IndexedCast::Refused(answer::INVALID_INPUT);
+        return Err(Refusal::InvalidInput);
     }
     if !triangle_mesh::lengths_admitted(vertices.len(), triangles.len()) {
-        return IndexedCast::Refused(answer::BAD_SHAPE);
+        return Err(Refusal::BadShape);
     }
     plain_cast(ray, vertices, triangles)
 }

@@ -2,14 +2,13 @@
 use Prim.Native.Nat.{ℕ}
 use mathlib.Core.Path.{◌≡◌, refl, ◌∙◌}
 use mathlib.Core.Bool.{Bool, true, false, cond}
-use native.Mathlib.Omega.{arith}
 use lib.Ieee.{Float, lt}
 use Rattle.arithmetic.specs.Basic.{is_finite}
 use Rattle.vectors.specs.Numbers.{min_positive}
 use Rattle.vectors.specs.Vector.{cross_of, dot_of, normalizable, over_length, try_normalize}
 use Rattle.vectors.proofs.NormalLaws.{told_unit}
 use Rattle.vectors.specs.declared.vec3.Vec3.{Vec3}
-use Rattle.vectors.specs.declared.vec3.Normalized.TheVariants.{Unit as UnitOf, Degenerate}
+use Rattle.std.specs.Prelude.{Some}
 use Rattle.geometry.specs.declared.ray.Ray.{Ray}
 use Rattle.casts.specs.Answer.{Answer, hit, none, refused, no_normal}
 use Rattle.triangle_cast.specs.Triangle.{triangle_normal}
@@ -46,18 +45,12 @@ module _ (r : Ray) where
 
 -- ---- the unit of a vector that has a direction
 module _ (v : Vec3) (h : normalizable v ≡ true) where
-  told : try_normalize v ≡ UnitOf (unit_of v)
+  told : try_normalize v ≡ Some (unit_of v)
   unfolding try_normalize
   told = simp h
 
-  pub unit_told : (unit : Vec3) → UnitOf unit ≡ try_normalize v → unit ≡ unit_of v
+  pub unit_told : (unit : Vec3) → Some unit ≡ try_normalize v → unit ≡ unit_of v
   unit_told unit e = cc (e ∙ told)
-
-  pub unit_there : Degenerate ≡ try_normalize v → ⊥
-  unit_there e =
-      let same : Degenerate ≡ UnitOf (unit_of v) = e ∙ told in
-      let z : ◌≡◌ {A = ℕ} 0 1 = cc in
-      omega (arith, z)
 
   -- where the dot tells the length
   pub unit_by_length : (d : Float) → d ≡ dot_of v v → is_finite d ≡ true → lt d min_positive ≡ false → over_length v ≡ unit_of v

@@ -7,7 +7,7 @@ use lib.Ieee.{Float, lt}
 use Rattle.casts.specs.Answer.{Answer, hit, none, refused}
 use Rattle.nearest_hit.specs.Nearest.{Indexed, hit_at, no_hit, stopped, next_of, gives_way}
 use Rattle.casts.specs.Reach.{reach_of}
-use Rattle.casts.specs.declared.answer.Reach.TheVariants.{At, Miss, Refused}
+use Rattle.casts.specs.Reach.{At, Miss, Refused}
 use Rattle.triangle_cast.proofs.ReachLaws.{missed}
 
 pub next_none : (best : Indexed) (index : ℕ) → best ≡ next_of best index none

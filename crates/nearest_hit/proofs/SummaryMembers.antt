@@ -10,10 +10,8 @@ use Rattle.casts.specs.Answer.{Answer}
 use Rattle.casts.specs.Reach.{reach_of}
 use Rattle.nearest_hit.specs.Summary.{Kept, nobody, kept, keep_of, Found, found, lower, nearer, Summary, nothing, note_of, summary_from}
 use Rattle.nearest_hit.specs.Summary.{hit_outcome, winner_of, winner}
-use Rattle.casts.specs.declared.answer.Reach.{Reach}
-use Rattle.casts.specs.declared.answer.Reach.TheVariants.{At, Miss, Refused}
-use Rattle.nearest_hit.specs.declared.summary.Outcome.{Outcome}
-use Rattle.nearest_hit.specs.declared.summary.Outcome.TheVariants.{Nobody, Refused as RefusedBy, NearestHit}
+use Rattle.casts.specs.Reach.{Reach, At, Miss, Refused}
+use Rattle.nearest_hit.specs.Summary.{Outcome, Nobody, RefusedBy, NearestHit}
 use Rattle.lists.proofs.Members.{Each, each_rest}
 
 -- of the one that is kept

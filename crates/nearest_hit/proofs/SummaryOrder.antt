@@ -7,8 +7,7 @@ use lib.Ieee.{Float, is_nan}
 use Rattle.casts.specs.Answer.{Answer, hit, none, refused}
 use Rattle.casts.specs.Reach.{reach_of}
 use Rattle.nearest_hit.specs.Summary.{Kept, Found, found, lower, nearer, Summary, note_of, summary_from}
-use Rattle.casts.specs.declared.answer.Reach.{Reach}
-use Rattle.casts.specs.declared.answer.Reach.TheVariants.{At, Miss, Refused}
+use Rattle.casts.specs.Reach.{Reach, At, Miss, Refused}
 use Rattle.casts.proofs.AnswerLists.{OfHit, IsNumber, HitsAreNumbers}
 use Rattle.nearest_hit.proofs.KeptLaws.{keep_commutes, lower_goes, lower_apart, nearer_goes, nearer_apart}
 use Rattle.nearest_hit.proofs.NextLaws.{same_reach}

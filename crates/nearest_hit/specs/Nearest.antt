@@ -1,10 +1,10 @@
 -- The fold of triangle answers over a list of indices: the mesh's and the height grid's. Definitions only. Assumes nothing.
-use Rattle.std.specs.Prelude.{ℕ, Bool, true, false, cond, List, [], ◌∷◌, Float}
+use Rattle.std.specs.Prelude.{ℕ, Bool, true, false, cond, List, [], ◌∷◌, Float, Option, Some, None, Result, Ok, Err}
 use Rattle.std.specs.Float.Ieee.{lt}
 use Rattle.vectors.specs.declared.vec3.Vec3.{Vec3}
-use Rattle.casts.specs.Answer.{Answer, hit, none, refused}
-use Rattle.nearest_hit.specs.declared.nearest.IndexedCast.{IndexedCast}
-use Rattle.nearest_hit.specs.declared.nearest.IndexedCast.TheVariants.{Hit, None, Refused}
+use Rattle.casts.specs.Answer.{Answer, hit, none, refused, number_of}
+use Rattle.casts.specs.declared.answer.Refusal.{Refusal}
+use Rattle.nearest_hit.specs.declared.nearest.IndexedHit.{IndexedHit}
 
 -- "The mesh cast adds the triangle's index"
 pub data Indexed : Type 0 where
@@ -12,11 +12,11 @@ pub data Indexed : Type 0 where
   no_hit : Indexed
   stopped : ℕ → Indexed
 
--- what each case of the code's answer says: its values, or its number
-abbrev pub says_indexed : IndexedCast → Indexed
-says_indexed (Hit normal distance index) = hit_at normal distance index
-says_indexed None = no_hit
-says_indexed (Refused number) = stopped number
+-- what the code's answer says: a hit's values, or a refusal's number
+abbrev pub says_indexed : Result (Option IndexedHit) Refusal → Indexed
+says_indexed (Ok (Some h)) = hit_at h.normal h.distance h.index
+says_indexed (Ok None) = no_hit
+says_indexed (Err refusal) = stopped (number_of refusal)
 
 -- one more triangle's answer: "first strictly least distance wins", and a triangle's refusal is the cast's, first met first
 unfoldable pub next_of : Indexed → ℕ → Answer → Indexed

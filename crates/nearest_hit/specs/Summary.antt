@@ -1,19 +1,14 @@
 -- What of a list of triangles decides its nearest hit, whatever their order. Definitions only. Assumes nothing.
 -- nobody yet, or the one that goes before all others that came
 pub use Rattle.std.proofs.Math.Option.{Option as Kept, none as nobody, some as kept}
-use Rattle.std.specs.Prelude.{ℕ, Bool, ◌&&◌, ◌||◌, cond, List, [], ◌∷◌, ltb, Float}
+use Rattle.std.specs.Prelude.{ℕ, Bool, ◌&&◌, ◌||◌, cond, List, [], ◌∷◌, ltb, Float, Option, Some, None, Result, Ok, Err}
 use Rattle.std.specs.Float.Ieee.{lt, le}
-use Rattle.casts.specs.Answer.{Answer}
+use Rattle.casts.specs.Answer.{Answer, number_of}
 use Rattle.nearest_hit.specs.Nearest.{Indexed, no_hit, stopped, next_of}
-use Rattle.casts.specs.Reach.{reach_of}
-use Rattle.casts.specs.declared.answer.Reach.{Reach}
-use Rattle.casts.specs.declared.answer.Reach.TheVariants.{At, Miss, Refused}
-use Rattle.nearest_hit.specs.declared.summary.ChosenRefusal.{ChosenRefusal}
-use Rattle.nearest_hit.specs.declared.summary.ChosenRefusal.TheVariants.{Nobody as NoRefusal, At as AtRefusal}
-use Rattle.nearest_hit.specs.declared.summary.ChosenHit.{ChosenHit}
-use Rattle.nearest_hit.specs.declared.summary.ChosenHit.TheVariants.{Nobody as NoHit, At as AtHit}
-use Rattle.nearest_hit.specs.declared.summary.Outcome.{Outcome}
-use Rattle.nearest_hit.specs.declared.summary.Outcome.TheVariants.{Nobody, Refused as RefusedBy, NearestHit}
+use Rattle.casts.specs.Reach.{Reach, At, Miss, Refused, reach_of}
+use Rattle.casts.specs.declared.answer.Refusal.{Refusal}
+use Rattle.nearest_hit.specs.declared.summary.IndexedRefusal.{IndexedRefusal}
+use Rattle.nearest_hit.specs.declared.summary.IndexedReach.{IndexedReach}
 use Rattle.nearest_hit.specs.declared.summary.NearestSoFar.{NearestSoFar}
 
 -- one more comes
@@ -57,6 +52,12 @@ unfoldable pub summary_from : (ℕ → Answer) → Summary → List ℕ → Summ
 summary_from answer s [] = s
 summary_from answer s (index ∷ rest) = summary_from answer (note_of s index (reach_of (answer index))) rest
 
+-- the answer of all, without a normal: nobody's, a refusal with its number, or that of a triangle hit at a distance
+pub data Outcome : Type 0 where
+  Nobody : Outcome
+  RefusedBy : ℕ → Outcome
+  NearestHit : ℕ → Float → Outcome
+
 abbrev pub hit_outcome : Kept (Found Float) → Outcome
 hit_outcome nobody = Nobody
 hit_outcome (kept s) = NearestHit s.index s.value
@@ -80,14 +81,19 @@ abbrev pub nearest_noted : (ℕ → Answer) → List ℕ → Indexed
 nearest_noted answer l = answer_at answer (winner (summary_from answer nothing l))
 
 -- what the code's notes say
-abbrev pub says_chosen_refusal : ChosenRefusal → Kept (Found ℕ)
-says_chosen_refusal NoRefusal = nobody
-says_chosen_refusal (AtRefusal index number) = kept (found index number)
+abbrev pub says_chosen_refusal : Option IndexedRefusal → Kept (Found ℕ)
+says_chosen_refusal None = nobody
+says_chosen_refusal (Some r) = kept (found r.index (number_of r.refusal))
 
-abbrev pub says_chosen_hit : ChosenHit → Kept (Found Float)
-says_chosen_hit NoHit = nobody
-says_chosen_hit (AtHit index distance) = kept (found index distance)
+abbrev pub says_chosen_hit : Option IndexedReach → Kept (Found Float)
+says_chosen_hit None = nobody
+says_chosen_hit (Some r) = kept (found r.index r.distance)
 
 abbrev pub says_nearest_so_far : NearestSoFar → Summary
 says_nearest_so_far notes =
     record { refuser = says_chosen_refusal notes.refuser; least = says_chosen_hit notes.least }
+
+abbrev pub says_outcome : Result (Option IndexedReach) Refusal → Outcome
+says_outcome (Ok (Some r)) = NearestHit r.index r.distance
+says_outcome (Ok None) = Nobody
+says_outcome (Err refusal) = RefusedBy (number_of refusal)

@@ -1,96 +1,62 @@
 ghost use Rattle.std.specs.Prelude.{◌≡◌, ℕ};
 ghost use Rattle.geometry.specs.declared.ray.Ray.{Ray as RayOf};
-ghost use Rattle.casts.specs.Answer.{hit, refused};
+ghost use Rattle.casts.specs.Answer.{hit, refused, number_of};
 ghost use Rattle.nearest_hit.specs.Nearest.{says_indexed, next_of};
-ghost use Rattle.triangle_cast.specs.Crossing.{crossing_answer, settled_answer};
+ghost use Rattle.triangle_cast.specs.Crossing.{within_answer, settled_answer};
 ghost use Rattle.nearest_hit.specs.Deferred.{says_near, faced_indexed, unit_of, Measured, HitMeasured};
-ghost use Rattle.triangle_cast.specs.declared.parts.Crossing.TheVariants.{Within};
 ghost use Rattle.triangle_cast.specs.Triangle.{triangle_cast};
 
-use crate::nearest::IndexedCast;
+use crate::nearest::{IndexedCast, IndexedHit};
 use arithmetic::square_root;
-use casts::{answer, surface};
+use casts::answer::Refusal;
+use casts::surface;
 use geometry::ray::Ray;
-use triangle_cast::parts::{Crossing, Distance};
+use triangle_cast::parts::Within;
 use triangle_cast::triangle;
 use vectors::vec3;
-use vectors::vec3::{Normalized, Vec3};
+use vectors::vec3::Vec3;
 
-// What was found so far, with the edges' cross and its dot with itself in place of the normal: the root is left for the hit that wins.
+// A hit with the edges' cross and its dot with itself in place of the normal: the root is left for the hit that wins.
 #[derive(Clone, Copy)]
-pub enum Near {
-    Hit {
-        cross: Vec3,
-        square: f64,
-        distance: f64,
-        index: u32,
-    },
-    None,
-    Refused(u32),
+pub struct NearHit {
+    pub cross: Vec3,
+    pub square: f64,
+    pub distance: f64,
+    pub index: u32,
 }
 
+// What was found so far.
+pub type Near = Result<Option<NearHit>, Refusal>;
+
 // One more hit, which takes the place of another only where it is strictly nearer.
+#[tactic(auto, unfolding(crate::specs::Nearest::next_of))]
 fn nearer(best: Near, index: u32, cross: Vec3, square: f64, distance: f64) -> Near
     ensures result_value { says_near result ≡ next_of (says_near best) index (hit cross distance) }
     ensures hit_measured { HitMeasured best → Measured cross square → HitMeasured result }
 {
-    match best {
-        Near::Hit {
-            cross: other,
-            square: its,
-            distance: reach,
-            index: at,
-        } => {
-            if distance < reach {
-                return Near::Hit {
-                    cross: cross,
-                    square: square,
-                    distance: distance,
-                    index: index,
-                };
-            }
-            return Near::Hit {
-                cross: other,
-                square: its,
-                distance: reach,
-                index: at,
-            };
-        }
-        Near::None => {
-            return Near::Hit {
-                cross: cross,
-                square: square,
-                distance: distance,
-                index: index,
-            };
-        }
-        Near::Refused(number) => {
-            return Near::Refused(number);
-        }
+    let one = Ok(Some(NearHit {
+        cross,
+        square,
+        distance,
+        index,
+    }));
+    let Some(hit) = best? else {
+        return one;
+    };
+    if distance < hit.distance {
+        return one;
     }
+    best
 }
 
 // A refusal, where none was met before.
-fn stopped(best: Near, number: u32) -> Near
-    ensures by_index { (index : ℕ) → says_near result ≡ next_of (says_near best) index (refused number) }
+#[tactic(auto, unfolding(crate::specs::Nearest::next_of))]
+fn stopped(best: Near, refusal: Refusal) -> Near
+    ensures by_index { (index : ℕ) → says_near result ≡ next_of (says_near best) index (refused (number_of refusal)) }
     ensures hit_measured { HitMeasured result }
 {
-    match best {
-        Near::Hit {
-            cross: _,
-            square: _,
-            distance: _,
-            index: _,
-        } => {
-            return Near::Refused(number);
-        }
-        Near::None => {
-            return Near::Refused(number);
-        }
-        Near::Refused(before) => {
-            return Near::Refused(before);
-        }
-    }
+    best?;
+    Err(refusal)
 }
 
 // What was found so far and one more triangle that is reached at a distance.
@@ -103,7 +69,7 @@ fn next_at(best: Near, index: u32, determinant: f64, a: Vec3, b: Vec3, distance:
         return best;
     }
     if distance != distance {
-        return stopped(best, answer::OVERFLOW);
+        return stopped(best, Refusal::Overflow);
     }
     let cross = a.cross(b);
     let square = cross.dot(cross);
@@ -113,27 +79,24 @@ fn next_at(best: Near, index: u32, determinant: f64, a: Vec3, b: Vec3, distance:
     if cross.is_normalizable() {
         return nearer(best, index, cross, square, distance);
     }
-    stopped(best, answer::NO_NORMAL)
+    stopped(best, Refusal::NoNormal)
 }
 
 // The same from what the first of its tests left.
-fn next_within(
-    best: Near,
-    index: u32,
-    ray: Ray,
-    offset: Vec3,
-    a: Vec3,
-    b: Vec3,
-    determinant: f64,
-    inverse: f64,
-    u: f64,
-) -> Near
+fn next_within(best: Near, index: u32, ray: Ray, within: Within) -> Near
     ensures result_value { faced_indexed ray (says_near result) ≡ next_of (faced_indexed ray (says_near best)) index
-        (crossing_answer ray (Within offset a b determinant inverse u)) }
+        (within_answer ray within) }
     ensures hit_measured { HitMeasured best → HitMeasured result }
 {
-    let found = triangle::distance_within(ray, offset, a, b, inverse, u);
-    let Distance::At(distance) = found else {
+    let Within {
+        offset,
+        a,
+        b,
+        determinant,
+        inverse,
+        u,
+    } = within;
+    let Some(distance) = triangle::distance_within(ray, offset, a, b, inverse, u) else {
         return best;
     };
     next_at(best, index, determinant, a, b, distance)
@@ -145,24 +108,10 @@ pub fn next_deferred(best: Near, index: u32, ray: Ray, corners: [Vec3; 3]) -> Ne
         ≡ next_of (faced_indexed ray (says_near best)) index (triangle_cast ray corners) }
     ensures hit_measured { HitMeasured best → HitMeasured result }
 {
-    let start = triangle::crossing(ray, corners);
-    match start {
-        Crossing::Within {
-            offset,
-            a,
-            b,
-            determinant,
-            inverse,
-            u,
-        } => {
-            return next_within(best, index, ray, offset, a, b, determinant, inverse, u);
-        }
-        Crossing::Miss => {
-            return best;
-        }
-        Crossing::Refused(number) => {
-            return stopped(best, number);
-        }
+    match triangle::crossing(ray, corners) {
+        Ok(Some(within)) => next_within(best, index, ray, within),
+        Ok(None) => best,
+        Err(refusal) => stopped(best, refusal),
     }
 }
 
@@ -179,11 +128,7 @@ fn unit_of(cross: Vec3, square: f64) -> Vec3
             z: cross.z / length,
         };
     }
-    let unit = cross.try_normalize();
-    let Normalized::Unit(normal) = unit else {
-        return cross;
-    };
-    normal
+    cross.try_normalize().unwrap_or(cross)
 }
 
 // The normal of the hit that won.
@@ -191,26 +136,14 @@ pub fn with_normal(ray: Ray, best: Near) -> IndexedCast
     requires { HitMeasured best }
     ensures { says_indexed result ≡ faced_indexed ray (says_near best) }
 {
-    match best {
-        Near::Hit {
-            cross,
-            square,
-            distance,
-            index,
-        } => {
-            let flips = ray.direction.dot(cross) > 0.0;
-            let normal = unit_of(cross, square);
-            return IndexedCast::Hit {
-                normal: surface::facing_as(normal, ray.direction.dot(normal), flips),
-                distance: distance,
-                index: index,
-            };
-        }
-        Near::None => {
-            return IndexedCast::None;
-        }
-        Near::Refused(number) => {
-            return IndexedCast::Refused(number);
-        }
-    }
+    let Some(hit) = best? else {
+        return Ok(None);
+    };
+    let flips = ray.direction.dot(hit.cross) > 0.0;
+    let normal = unit_of(hit.cross, hit.square);
+    Ok(Some(IndexedHit {
+        normal: surface::facing_as(normal, ray.direction.dot(normal), flips),
+        distance: hit.distance,
+        index: hit.index,
+    }))
 }

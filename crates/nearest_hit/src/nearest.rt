@@ -1,123 +1,79 @@
 ghost use Rattle.std.specs.Prelude.{◌≡◌};
 ghost use Rattle.casts.specs.Answer.{says};
 ghost use Rattle.nearest_hit.specs.Nearest.{no_hit, hit_at, says_indexed, next_of, gives_way, without_index};
-ghost use Rattle.triangle_cast.specs.Crossing.{crossing_answer, settled_answer};
-ghost use Rattle.triangle_cast.specs.declared.parts.Crossing.TheVariants.{Within};
+ghost use Rattle.triangle_cast.specs.Crossing.{within_answer, settled_answer};
 ghost use Rattle.triangle_cast.specs.Triangle.{triangle_cast};
 
-use casts::answer::{Cast, Reach};
+use casts::answer::{Cast, Hit, Refusal};
 use geometry::ray::Ray;
-use triangle_cast::parts::{Crossing, Distance};
+use triangle_cast::parts::Within;
 use triangle_cast::triangle;
 use vectors::vec3::Vec3;
 
-// The answer of a cast at many triangles: the hit adds the triangle's index.
+// A hit at one of many triangles, with the triangle's index.
 #[derive(Clone, Copy)]
-pub enum IndexedCast {
-    Hit {
-        normal: Vec3,
-        distance: f64,
-        index: u32,
-    },
-    None,
-    Refused(u32),
+pub struct IndexedHit {
+    pub normal: Vec3,
+    pub distance: f64,
+    pub index: u32,
 }
 
+// The answer of a cast at many triangles.
+pub type IndexedCast = Result<Option<IndexedHit>, Refusal>;
+
 // A triangle's answer where nothing was found before, with its index.
+#[tactic(auto, unfolding(crate::specs::Nearest::next_of))]
 fn indexed(index: u32, cast: Cast) -> IndexedCast
     ensures { says_indexed result ≡ next_of no_hit index (says cast) }
 {
-    match cast {
-        Cast::Hit { normal, distance } => {
-            return IndexedCast::Hit {
-                normal: normal,
-                distance: distance,
-                index: index,
-            };
-        }
-        Cast::None => {
-            return IndexedCast::None;
-        }
-        Cast::Refused(number) => {
-            return IndexedCast::Refused(number);
-        }
-    }
+    let Some(hit) = cast? else {
+        return Ok(None);
+    };
+    Ok(Some(IndexedHit {
+        normal: hit.normal,
+        distance: hit.distance,
+        index,
+    }))
 }
 
 // One more triangle's answer after a hit, which it replaces only where it is strictly nearer.
-fn nearer(normal: Vec3, distance: f64, at: u32, index: u32, cast: Cast) -> IndexedCast
-    ensures { says_indexed result ≡ next_of (hit_at normal distance at) index (says cast) }
+#[tactic(auto, unfolding(crate::specs::Nearest::next_of))]
+fn nearer(best: IndexedHit, index: u32, cast: Cast) -> IndexedCast
+    ensures { says_indexed result ≡ next_of (hit_at best.normal best.distance best.index) index (says cast) }
 {
-    match cast {
-        Cast::Hit {
-            normal: other,
-            distance: reach,
-        } => {
-            if reach < distance {
-                return IndexedCast::Hit {
-                    normal: other,
-                    distance: reach,
-                    index: index,
-                };
-            }
-            return IndexedCast::Hit {
-                normal: normal,
-                distance: distance,
-                index: at,
-            };
-        }
-        Cast::None => {
-            return IndexedCast::Hit {
-                normal: normal,
-                distance: distance,
-                index: at,
-            };
-        }
-        Cast::Refused(number) => {
-            return IndexedCast::Refused(number);
-        }
+    let Some(hit) = cast? else {
+        return Ok(Some(best));
+    };
+    if hit.distance < best.distance {
+        return Ok(Some(IndexedHit {
+            normal: hit.normal,
+            distance: hit.distance,
+            index,
+        }));
     }
+    Ok(Some(best))
 }
 
 // What was found so far and one more triangle's answer; the first refusal stays.
+#[tactic(auto, unfolding(crate::specs::Nearest::next_of))]
 pub fn next(best: IndexedCast, index: u32, cast: Cast) -> IndexedCast
     ensures { says_indexed result ≡ next_of (says_indexed best) index (says cast) }
 {
-    match best {
-        IndexedCast::Hit {
-            normal,
-            distance,
-            index: at,
-        } => {
-            return nearer(normal, distance, at, index, cast);
-        }
-        IndexedCast::None => {
-            return indexed(index, cast);
-        }
-        IndexedCast::Refused(number) => {
-            return IndexedCast::Refused(number);
-        }
+    match best? {
+        Some(hit) => nearer(hit, index, cast),
+        None => indexed(index, cast),
     }
 }
 
 // Whether a hit at a distance would take the place of what was found so far.
+#[tactic(auto, unfolding(crate::specs::Nearest::gives_way))]
 pub fn gives_way(best: IndexedCast, distance: f64) -> bool
     ensures { result ≡ gives_way (says_indexed best) distance }
 {
     match best {
-        IndexedCast::Hit {
-            normal: _,
-            distance: least,
-            index: _,
-        } => {
-            return distance < least;
-        }
-        IndexedCast::None => {
-            return true;
-        }
-        IndexedCast::Refused(_) => {
-            return false;
-        }
+        Ok(Some(hit)) => distance < hit.distance,
+        Ok(None) => true,
+        Err(_) => false,
     }
 }
 
@@ -133,39 +89,31 @@ fn next_settled(
 ) -> IndexedCast
     ensures { says_indexed result ≡ next_of (says_indexed best) index (settled_answer ray determinant a b distance) }
 {
-    let reach = triangle::settled(determinant, a.x, a.y, a.z, b.x, b.y, b.z, distance);
-    match reach {
-        Reach::At(reached) => {
+    match triangle::settled(determinant, a.x, a.y, a.z, b.x, b.y, b.z, distance) {
+        Ok(Some(reached)) => {
             if gives_way(best, reached) {
                 return next(best, index, triangle::triangle_normal(ray, a, b, reached));
             }
-            return best;
+            best
         }
-        Reach::Miss => {
-            return best;
-        }
-        Reach::Refused(number) => {
-            return next(best, index, Cast::Refused(number));
-        }
+        Ok(None) => best,
+        Err(refusal) => next(best, index, Err(refusal)),
     }
 }
 
 // What was found so far and one more triangle, from what the first of its tests left.
-fn next_within(
-    best: IndexedCast,
-    index: u32,
-    ray: Ray,
-    offset: Vec3,
-    a: Vec3,
-    b: Vec3,
-    determinant: f64,
-    inverse: f64,
-    u: f64,
-) -> IndexedCast
-    ensures { says_indexed result ≡ next_of (says_indexed best) index (crossing_answer ray (Within offset a b determinant inverse u)) }
+fn next_within(best: IndexedCast, index: u32, ray: Ray, within: Within) -> IndexedCast
+    ensures { says_indexed result ≡ next_of (says_indexed best) index (within_answer ray within) }
 {
-    let found = triangle::distance_within(ray, offset, a, b, inverse, u);
-    let Distance::At(distance) = found else {
+    let Within {
+        offset,
+        a,
+        b,
+        determinant,
+        inverse,
+        u,
+    } = within;
+    let Some(distance) = triangle::distance_within(ray, offset, a, b, inverse, u) else {
         return best;
     };
     next_settled(best, index, ray, a, b, determinant, distance)
@@ -176,47 +124,23 @@ fn next_within(
 pub fn next_triangle(best: IndexedCast, index: u32, ray: Ray, corners: [Vec3; 3]) -> IndexedCast
     ensures { says_indexed result ≡ next_of (says_indexed best) index (triangle_cast ray corners) }
 {
-    let start = triangle::crossing(ray, corners);
-    match start {
-        Crossing::Within {
-            offset,
-            a,
-            b,
-            determinant,
-            inverse,
-            u,
-        } => {
-            return next_within(best, index, ray, offset, a, b, determinant, inverse, u);
-        }
-        Crossing::Miss => {
-            return best;
-        }
-        Crossing::Refused(number) => {
-            return next(best, index, Cast::Refused(number));
-        }
+    match triangle::crossing(ray, corners) {
+        Ok(Some(within)) => next_within(best, index, ray, within),
+        Ok(None) => best,
+        Err(refusal) => next(best, index, Err(refusal)),
     }
 }
 
 // The answer without the index.
+#[tactic(auto, unfolding(crate::specs::Nearest::without_index))]
 pub fn without_index(best: IndexedCast) -> Cast
     ensures { says result ≡ without_index (says_indexed best) }
 {
-    match best {
-        IndexedCast::Hit {
-            normal,
-            distance,
-            index: _,
-        } => {
-            return Cast::Hit {
-                normal: normal,
-                distance: distance,
-            };
-        }
-        IndexedCast::None => {
-            return Cast::None;
-        }
-        IndexedCast::Refused(number) => {
-            return Cast::Refused(number);
-        }
-    }
+    let Some(hit) = best? else {
+        return Ok(None);
+    };
+    Ok(Some(Hit {
+        normal: hit.normal,
+        distance: hit.distance,
+    }))
 }

@@ -1,6 +1,6 @@
 -- What `probe` does where the bytes of the reader and of the writer are known. Assumes nothing.
-use Rattle.std.proofs.Common.{◌≡◌, ℕ, ◌+◌, ◌-◌, ◌≤◌, min, Bool, true, false, List, [], ◌++◌, length, take, drop, ℤ, pos, negsuc, None, Some}
-use Rattle.std.proofs.Common.{IfSome, MatchResult, Ok, Err, sym, ap, subst, ◌∙◌, true≢false, arith, length-drop, length-take-le, drop_at}
+use Rattle.std.proofs.Common.{◌≡◌, ℕ, ◌+◌, ◌-◌, ◌≤◌, min, Bool, true, false, List, [], ◌++◌, length, take, drop, None, Some}
+use Rattle.std.proofs.Common.{IfSome, Ok, Err, sym, ap, subst, ◌∙◌, true≢false, arith, length-drop, length-take-le, drop_at}
 use borrow.Author.Tests.{eqb-true}
 use Rattle.std.proofs.Math.Nat.{min-eq_left}
 use Rattle.std.proofs.lemmas.List.{take-append-le}
@@ -8,12 +8,13 @@ use Rattle.std.proofs.KnownBytes.{Consumes-nil, Appends-nil, Appends-trans, Cons
 use native.Mathlib.Numerals.{add-one}
 use Rattle.std.specs.declared.option.Option.{Option}
 use Rattle.std.specs.declared.result.Result.{Result}
+use Rattle.std.specs.Result.{result_ok}
 use borrow.Rule.Slice.PartMut.{post_of, mid_of}
 use Rattle.std.specs.Io.{ReadsAtMost}
 use Rattle.std.specs.Io.KnownBytes.{Consumes, Appends, Keeps, IsAtEnd, ReadConsumes}
 use Rattle.records.specs.Output.{output_of}
 use Rattle.probe.specs.declared.runs.Run.{Run}
-use Rattle.probe.specs.Runs.{start_run, reads_more, failed_run, after_read, after_write, read_bytes}
+use Rattle.probe.specs.Runs.{start_run, reads_more, after_read, after_write, read_bytes}
 use Rattle.probe.specs.Runs.{ReadOn, idle, asked, Answers, spent, made, AfterWrite, AtEnd, StepMoves, PutsOut, Steps, none, more, Finished}
 use Rattle.probe.proofs.Returns.{area_after}
 use Rattle.probe.proofs.RunLaws.{not_ended, few_held, steps_progress, whole_following, finished}
@@ -36,8 +37,8 @@ pub failed_reads_none : (run ready : Run) (input area : List ℕ) → ReadOn run
     → read_bytes run ready area ≡ []
 unfolding after_read
 failed_reads_none run ready input area (idle h e a) f = none_read run ready area (ap (λ (r : Run). r.held) e)
-failed_reads_none run ready input area (asked (negsuc k) h e a) f = none_read run ready area (ap (λ (r : Run). r.held) e)
-failed_reads_none run ready input area (asked (pos k) h e a) f =
+failed_reads_none run ready input area (asked None h e a) f = none_read run ready area (ap (λ (r : Run). r.held) e)
+failed_reads_none run ready input area (asked (Some k) h e a) f =
     absurd (true≢false (sym f ∙ ap (λ (r : Run). r.failed) e))
 
 module _ (run ready : Run) (input rest : List ℕ) (held_in : run.held ≤ length input)
@@ -46,7 +47,7 @@ module _ (run ready : Run) (input rest : List ℕ) (held_in : run.held ≤ lengt
   rest_size = same ∙ length-take-le _ _ (omega (arith, length-drop run.held input))
 
   -- it gave the first bytes of what stands in the rest
-  given_bytes : (count : ℕ) → count ≤ length rest → ready ≡ after_read run (pos count) (length input - run.held)
+  given_bytes : (count : ℕ) → count ≤ length rest → ready ≡ after_read run (Some count) (length input - run.held)
       → read_bytes run ready (area_after run input rest) ≡ take count rest
   unfolding after_read
   given_bytes count fits e =
@@ -58,42 +59,34 @@ module _ (run ready : Run) (input rest : List ℕ) (held_in : run.held ≤ lengt
       ∙ take-append-le count rest (post_of run.held (length input - run.held) input) fits
 
   -- and none but at the end of the input
-  given_none : (count : ℕ) → count ≤ length rest → ready ≡ after_read run (pos count) (length input - run.held)
+  given_none : (count : ℕ) → count ≤ length rest → ready ≡ after_read run (Some count) (length input - run.held)
       → ready.ended ≡ true → count ≡ 0
   unfolding after_read
   given_none count fits e h =
       let all : min count (length input - run.held) ≡ count = min-eq_left (omega (arith, rest_size)) in
       sym all ∙ eqb-true _ 0 (sym (ap (λ (r : Run). r.ended) e) ∙ h)
 
-  module _ {E : Type 0} (got : ℤ) (r : Result ℕ E) (ahead left : Option (List ℕ))
-      (number : MatchResult r (λ count. got ≡ pos count) (λ e. got ≡ negsuc 0)) (fits : ReadsAtMost r rest)
-      (c : ReadConsumes ahead left r rest) (is : ready ≡ after_read run got (length input - run.held)) where
+  module _ {E : Type 0} (r : Result ℕ E) (ahead left : Option (List ℕ)) (fits : ReadsAtMost r rest) (c : ReadConsumes ahead left r rest)
+      (is : ready ≡ after_read run (result_ok r) (length input - run.held)) where
     pub read_consumes : Consumes ahead left (read_bytes run ready (area_after run input rest))
     unfolding after_read
-    read_consumes = go r number fits c
+    read_consumes = go r fits c is
       where
-        go : (r : Result ℕ E) → MatchResult r (λ count. got ≡ pos count) (λ e. got ≡ negsuc 0)
-            → ReadsAtMost r rest → ReadConsumes ahead left r rest
+        go : (r : Result ℕ E) → ReadsAtMost r rest → ReadConsumes ahead left r rest
+            → ready ≡ after_read run (result_ok r) (length input - run.held)
             → Consumes ahead left (read_bytes run ready (area_after run input rest))
-        go (Ok count) n f c =
-            subst (Consumes ahead left)
-            (sym (given_bytes count f.0 (is ∙ ap (λ (z : ℤ). after_read run z (length input - run.held)) n))) c.0
-        go (Err e) n f c =
-            let failed : ready ≡ failed_run run = is ∙ ap (λ (z : ℤ). after_read run z (length input - run.held)) n in
-            subst (Consumes ahead left) (sym (none_read run ready _ (ap (λ (r : Run). r.held) failed))) (keeps_none ahead left c)
+        go (Ok count) f c is = subst (Consumes ahead left) (sym (given_bytes count f.0 is)) c.0
+        go (Err e) f c is =
+            subst (Consumes ahead left) (sym (none_read run ready _ (ap (λ (r : Run). r.held) is))) (keeps_none ahead left c)
 
     pub read_ends : reads_more run ≡ true → length input ≡ 65536 → AtEnd ready left
     unfolding after_read
-    read_ends reads whole h = go r number fits c
+    read_ends reads whole h = go r fits c is
       where
-        go : (r : Result ℕ E) → MatchResult r (λ count. got ≡ pos count) (λ e. got ≡ negsuc 0)
-            → ReadsAtMost r rest → ReadConsumes ahead left r rest → IsAtEnd left
-        go (Ok count) n f c =
-            c.1 (given_none count f.0 (is ∙ ap (λ (z : ℤ). after_read run z (length input - run.held)) n) h)
-            (omega (arith, rest_size, whole, few_held run reads))
-        go (Err e) n f c =
-            let failed : ready ≡ failed_run run = is ∙ ap (λ (z : ℤ). after_read run z (length input - run.held)) n in
-            absurd (true≢false (sym h ∙ ap (λ (r : Run). r.ended) failed ∙ not_ended run reads))
+        go : (r : Result ℕ E) → ReadsAtMost r rest → ReadConsumes ahead left r rest
+            → ready ≡ after_read run (result_ok r) (length input - run.held) → IsAtEnd left
+        go (Ok count) f c is = c.1 (given_none count f.0 is h) (omega (arith, rest_size, whole, few_held run reads))
+        go (Err e) f c is = absurd (true≢false (sym h ∙ ap (λ (r : Run). r.ended) is ∙ not_ended run reads))
 
 -- ---- a step
 

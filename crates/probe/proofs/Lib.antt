@@ -1,5 +1,4 @@
--- Laws about a run of `probe`, and about moving what is held. Assumes nothing.
-pub mod Moving
+-- Laws about a run of `probe`. Assumes nothing.
 pub mod Returns
 pub mod RunLaws
 pub mod Known

@@ -1,41 +1,25 @@
 -- What the functions over a run return, as their contracts say it. Assumes nothing.
-use Prim.Native.Nat.{ℕ, min, ◌+◌, ◌-◌, ◌<◌, ◌≤◌}
+use Prim.Native.Nat.{ℕ, ◌+◌, ◌-◌, ◌<◌, ◌≤◌}
 use mathlib.Core.Path.{◌≡◌, refl, sym, ap, ◌∙◌}
-use mathlib.Core.Bool.{Bool, true, false, true≢false}
+use mathlib.Core.Bool.{Bool, true, false}
 use mathlib.Core.List.{List, ◌++◌}
-use native.Mathlib.Nat.{min-le_right, min_comm}
+use native.Mathlib.Nat.{min-le_right}
 use native.Mathlib.Omega.{arith}
-use borrow.Author.Tests.{ltb-true}
-use lib.Dec.{eqb}
-use lib.IntN.{ℤ, pos, negsuc, nat_abs}
+use Rattle.std.specs.Prelude.{Option, Some, None}
 use lib.ListN.{length, take, drop, length-drop}
-use lib.Signed.{lt_z}
 use lib.Seq.{take-add, take_at, drop_at, length-take-le}
 use borrow.Rule.Slice.PartMut.{mid_of, put_mid, take_put, same_len_mid}
 use Rattle.record_stream.specs.declared.answers.Progress.{Progress}
 use Rattle.record_stream.specs.Progress.{Answered, goes_on}
 use Rattle.probe.specs.declared.runs.Run.{Run}
-use Rattle.probe.specs.Runs.{last_number, reads_more, failed_run, after_read, next_run, after_write, held_of, ReadOn, asked}
+use Rattle.probe.specs.Runs.{last_number, reads_more, after_read, next_run, after_write, held_of, ReadOn, asked}
 use Rattle.probe.specs.Runs.{Answers, made, AfterWrite}
 
--- by the sign of what a read answered
-pub read_failed : (run : Run) (got : ℤ) (room : ℕ) → lt_z got (pos 0) ≡ true → failed_run run ≡ after_read run got room
-unfolding after_read
-read_failed run (pos k) room h = absurd (omega (arith, ltb-true k 0 h))
-read_failed run (negsuc k) room h = refl
-
-pub read_gave : (run : Run) (got : ℤ) (room more : ℕ) → lt_z got (pos 0) ≡ false → more ≡ min room (nat_abs got)
-    → record { held = run.held + more; next = run.next; filled = 0; ended = eqb more 0; over = false; failed = false }
-    ≡ after_read run got room
-unfolding after_read
-read_gave run (pos k) room more h e = simp (e, min_comm room k)
-read_gave run (negsuc k) room more h e = absurd (true≢false h)
-
-read_held : (run ready : Run) (got : ℤ) (room most : ℕ) → ready ≡ after_read run got room → run.held + room ≤ most
+read_held : (run ready : Run) (got : Option ℕ) (room most : ℕ) → ready ≡ after_read run got room → run.held + room ≤ most
     → ready.held ≤ most
 unfolding after_read
-read_held run ready (negsuc k) room most e h = omega (arith, ap (λ (r : Run). r.held) e)
-read_held run ready (pos k) room most e h = omega (arith, ap (λ (r : Run). r.held) e, min-le_right k room)
+read_held run ready None room most e h = omega (arith, ap (λ (r : Run). r.held) e)
+read_held run ready (Some k) room most e h = omega (arith, ap (λ (r : Run). r.held) e, min-le_right k room)
 
 rest_length : (area input : List ℕ) (held : ℕ) → length area ≡ length input
     → length (take (length area - held) (drop held area)) ≡ length input - held
@@ -46,7 +30,7 @@ abbrev pub area_after : Run → List ℕ → List ℕ → List ℕ
 area_after run input rest = put_mid run.held (length input - run.held) input rest
 
 -- A read was made, whatever it answered: what was held stays, and the run goes by the answer.
-module _ (run ready : Run) (input rest : List ℕ) (got : ℤ) (held_in : run.held ≤ length input)
+module _ (run ready : Run) (input rest : List ℕ) (got : Option ℕ) (held_in : run.held ≤ length input)
     (same : length rest ≡ length (mid_of run.held (length input - run.held) input))
     (is : ready ≡ after_read run got (length (take (length (area_after run input rest) - run.held)
     (drop run.held (area_after run input rest))))) where

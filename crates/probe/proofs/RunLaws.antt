@@ -6,7 +6,7 @@ use mathlib.Core.List.{List, [], ◌++◌, append_assoc, append-nil}
 use native.Mathlib.Omega.{arith}
 use lib.Dec.{ltb}
 use borrow.Author.Tests.{ltb-true}
-use lib.IntN.{ℤ, pos, negsuc}
+use Rattle.std.specs.Prelude.{Option, Some, None}
 use lib.ListN.{length, take, drop}
 use lib.Seq.{take-add}
 use Rattle.records.specs.Output.{output_of}
@@ -79,23 +79,23 @@ pub record Given (run ready : Run) (count : ℕ) : Type 0 where
   pub untouched : ready.over ≡ false
 
 -- how many bytes it gave
-read_count : ℤ → ℕ → ℕ
-read_count (pos k) room = min k room
-read_count (negsuc k) room = 0
+read_count : Option ℕ → ℕ → ℕ
+read_count (Some k) room = min k room
+read_count None room = 0
 
-given : (run ready : Run) (got : ℤ) (room : ℕ) → ready ≡ after_read run got room → ready.failed ≡ false
+given : (run ready : Run) (got : Option ℕ) (room : ℕ) → ready ≡ after_read run got room → ready.failed ≡ false
     → Given run ready (read_count got room)
 unfolding after_read read_count
-given run ready (negsuc k) room e f = absurd (true≢false (sym (ap (λ (r : Run). r.failed) e) ∙ f))
-given run ready (pos k) room e f =
+given run ready None room e f = absurd (true≢false (sym (ap (λ (r : Run). r.failed) e) ∙ f))
+given run ready (Some k) room e f =
     record { grown = ap (λ (r : Run). r.held) e; same = ap (λ (r : Run). r.next) e; untouched = ap (λ (r : Run). r.over) e }
 
 -- and one that did
-not_given : (run ready : Run) (got : ℤ) (room : ℕ) → ready ≡ after_read run got room → ready.failed ≡ true
+not_given : (run ready : Run) (got : Option ℕ) (room : ℕ) → ready ≡ after_read run got room → ready.failed ≡ true
     → ready ≡ failed_run run
 unfolding after_read
-not_given run ready (negsuc k) room e f = e
-not_given run ready (pos k) room e f = absurd (false≢true (sym (ap (λ (r : Run). r.failed) e) ∙ f))
+not_given run ready None room e f = e
+not_given run ready (Some k) room e f = absurd (false≢true (sym (ap (λ (r : Run). r.failed) e) ∙ f))
 
 module _ (bytes lines : List ℕ) (run : Run) (input : List ℕ) (x : Exact bytes lines run (held_of run input)) (o : run.over ≡ false) where
   read_none : Exact (bytes ++ read_bytes run run input) lines run (held_of run input)

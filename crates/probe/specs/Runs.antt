@@ -1,7 +1,6 @@
 -- What `probe` does between its reads and its writes: the run, one step, and all steps. Definitions only. Assumes nothing.
-use Rattle.std.specs.Prelude.{ℕ, suc, ◌+◌, ◌-◌, ◌<◌, ◌≤◌, min, ◌≡◌, Bool, true, false, not, ◌&&◌, List, [], ◌++◌, ltb, eqb, ℤ, pos, negsuc}
-use Rattle.std.specs.Prelude.{length, take, drop, IfSome}
-use Rattle.std.specs.declared.option.Option.{Option}
+use Rattle.std.specs.Prelude.{ℕ, suc, ◌+◌, ◌-◌, ◌<◌, ◌≤◌, min, ◌≡◌, Bool, true, false, not, ◌&&◌, List, [], ◌++◌, ltb, eqb}
+use Rattle.std.specs.Prelude.{Option, Some, None, length, take, drop, IfSome}
 use Rattle.std.specs.Io.KnownBytes.{Consumes, Appends, IsAtEnd}
 use Rattle.records.specs.Output.{output_of}
 use Rattle.record_stream.specs.declared.answers.Progress.{Progress}
@@ -32,11 +31,11 @@ reads_more run = not run.ended && ltb run.held longest_record
 abbrev pub failed_run : Run → Run
 failed_run run = record { held = run.held; next = run.next; filled = 0; ended = run.ended; over = true; failed = true }
 
--- By what a read into so many places answered: a negative number where it failed, else how many bytes it gave. One that gives no byte is
--- the end of the input, and one that fails is not.
-unfoldable pub after_read : Run → ℤ → ℕ → Run
-after_read run (negsuc k) room = failed_run run
-after_read run (pos k) room = record {
+-- By what a read into so many places answered: nothing where it failed, else how many bytes it gave. One that gives no byte is the end of
+-- the input, and one that fails is not.
+unfoldable pub after_read : Run → Option ℕ → ℕ → Run
+after_read run None room = failed_run run
+after_read run (Some k) room = record {
   held = run.held + min k room;
   next = run.next;
   filled = 0;
@@ -69,7 +68,7 @@ held_of run input = take run.held input
 -- run goes by its answer.
 pub data ReadOn (run : Run) (input : List ℕ) (ready : Run) (area : List ℕ) : Type 0 where
   idle : reads_more run ≡ false → ready ≡ run → area ≡ input → ReadOn run input ready area
-  asked : (got : ℤ) → reads_more run ≡ true → ready ≡ after_read run got (length input - run.held)
+  asked : (got : Option ℕ) → reads_more run ≡ true → ready ≡ after_read run got (length input - run.held)
       → held_of run area ≡ held_of run input → ReadOn run input ready area
 
 -- the bytes that it read

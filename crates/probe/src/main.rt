@@ -17,6 +17,7 @@ ghost use Rattle.probe.specs.Runs.{read_bytes, ReadOn, Answers, LinesOf, AfterWr
 
 use crate::runs::Run;
 use record_stream::answers;
+use records::areas::{TreeAreas, WorkAreas};
 use std::io::{Eprint, Read, Write};
 
 // Says on standard error that a read or a write failed, where it did. Nothing is to be done where that fails too.
@@ -39,7 +40,7 @@ fn read_on<R: Read>(stdin: &mut R, rt: &impl Eprint, run: Run, input: &mut [u8])
         return run;
     }
     let held = run.held;
-    let got = runs::answer_of(stdin.read(&mut input[held..]));
+    let got = stdin.read(&mut input[held..]);
     let given = runs::after_read(run, got, &input[held..]);
     say_if(rt, given.failed, "probe: standard input cannot be read");
     given
@@ -47,19 +48,7 @@ fn read_on<R: Read>(stdin: &mut R, rt: &impl Eprint, run: Run, input: &mut [u8])
 
 // The lines for what is held, at the front of the output area, and what is left at the front of the input area. No run reaches the last
 // record numbers.
-fn answer(
-    run: Run,
-    input: &mut [u8],
-    work: &mut [f64; 1024],
-    triangles: &mut [u32; 2031],
-    node_boxes: &mut [f64; 8124],
-    triangle_boxes: &mut [f64; 4062],
-    node_words: &mut [u32; 4062],
-    order: &mut [u32; 677],
-    list: &mut [u32; 677],
-    stack: &mut [u32; 1355],
-    output: &mut [u8],
-) -> Run
+fn answer(run: Run, input: &mut [u8], areas: &mut WorkAreas, output: &mut [u8]) -> Run
     requires { (run.held ≤ 65536) × ((length input.old ≡ 65536) × (length output.old ≡ 65536)) }
     ensures answers { Answers run input.old result input.new (take result.filled output.new) }
     ensures held_bound { (result.held ≤ 65536) × (result.filled ≤ 65536) }
@@ -68,20 +57,7 @@ fn answer(
         return runs::failed_run(run);
     }
     let held = run.held;
-    let done = answers::answer_records(
-        run.next,
-        run.ended,
-        &input[..held],
-        work,
-        triangles,
-        node_boxes,
-        triangle_boxes,
-        node_words,
-        order,
-        list,
-        stack,
-        output,
-    );
+    let done = answers::answer_records(run.next, run.ended, &input[..held], areas, output);
     runs::move_front(input, done.used, held);
     runs::next_run(run, done)
 }
@@ -104,14 +80,7 @@ fn step<R: Read, W: Write>(
     rt: &impl Eprint,
     run: Run,
     input: &mut [u8],
-    work: &mut [f64; 1024],
-    triangles: &mut [u32; 2031],
-    node_boxes: &mut [f64; 8124],
-    triangle_boxes: &mut [f64; 4062],
-    node_words: &mut [u32; 4062],
-    order: &mut [u32; 677],
-    list: &mut [u32; 677],
-    stack: &mut [u32; 1355],
+    areas: &mut WorkAreas,
     output: &mut [u8],
 ) -> Run
     requires { (run.held ≤ 65536) × ((length input.old ≡ 65536) × (length output.old ≡ 65536)) }
@@ -125,58 +94,36 @@ fn step<R: Read, W: Write>(
     if ready.failed {
         return ready;
     }
-    let answered = answer(
-        ready,
-        input,
-        work,
-        triangles,
-        node_boxes,
-        triangle_boxes,
-        node_words,
-        order,
-        list,
-        stack,
-        output,
-    );
+    let answered = answer(ready, input, areas, output);
     let filled = answered.filled;
     write_lines(stdout, rt, answered, &output[..filled])
 }
 
-// Steps until the run is over. A proved loop ends: no run makes so many steps as the counter counts.
+// Steps until the run is over. A proved loop ends: no run makes so many steps.
 fn all_steps<R: Read, W: Write>(stdin: &mut R, stdout: &mut W, rt: &impl Eprint) -> Run
     ensures finished { Finished result }
     ensures output { PutsOut result (R.remaining stdin.old) (W.contents stdout.old) (W.contents stdout.new) }
 {
     let mut input = [0u8; 65536];
-    let mut work = [0.0; 1024];
-    let mut triangles = [0u32; 2031];
-    let mut node_boxes = [0.0; 8124];
-    let mut triangle_boxes = [0.0; 4062];
-    let mut node_words = [0u32; 4062];
-    let mut order = [0u32; 677];
-    let mut list = [0u32; 677];
-    let mut stack = [0u32; 1355];
+    let mut areas = WorkAreas {
+        numbers: [0.0; 1024],
+        triangles: [0; 2031],
+        tree: TreeAreas {
+            node_boxes: [0.0; 8124],
+            triangle_boxes: [0.0; 4062],
+            node_words: [0; 4062],
+            order: [0; 677],
+            list: [0; 677],
+            stack: [0; 1355],
+        },
+    };
     let mut output = [0u8; 65536];
     let mut run = runs::start();
-    let mut steps: u64 = 0;
-    while steps < u64::MAX && !run.over {
-        run = step(
-            stdin,
-            stdout,
-            rt,
-            run,
-            &mut input,
-            &mut work,
-            &mut triangles,
-            &mut node_boxes,
-            &mut triangle_boxes,
-            &mut node_words,
-            &mut order,
-            &mut list,
-            &mut stack,
-            &mut output,
-        );
-        steps += 1;
+    for steps in 0..u64::MAX {
+        if run.over {
+            return run;
+        }
+        run = step(stdin, stdout, rt, run, &mut input, &mut areas, &mut output);
     }
     run
 }

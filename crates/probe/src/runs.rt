@@ -1,12 +1,13 @@
 // A run between two calls of the system, and what each call's result makes of it.
-ghost use Rattle.std.specs.Prelude.{◌≡◌, ◌++◌, ◌+◌, ◌-◌, ◌^◌, ◌<◌, ◌≤◌, length, take, drop, pos, negsuc, IfOk, MatchResult};
+ghost use Rattle.std.specs.Prelude.{◌≡◌, ◌++◌, ◌+◌, ◌-◌, ◌<◌, ◌≤◌, length, take, drop};
+ghost use Rattle.std.specs.Result.{result_ok};
 ghost use Rattle.probe.specs.Runs.{start_run, reads_more, failed_run, after_read, next_run, after_write};
 
 use record_stream::answers::Progress;
 use std::io;
 
 // input[..held] was read and is not used yet; output[..filled] are the lines that are written next.
-#[derive(Clone, Copy)]
+#[derive(Clone, Copy, Debug, PartialEq, Eq)]
 pub struct Run {
     pub held: usize,
     // The next record's number.
@@ -35,13 +36,11 @@ pub fn start() -> Run
 }
 
 // Whether more is read: the input has not ended, and what is held may be less than a record of 4 + 8,192 bytes.
+#[tactic(auto, unfolding(crate::specs::Runs::reads_more))]
 pub fn reads_more(run: Run) -> bool
     ensures { result ≡ reads_more run }
 {
-    if run.ended {
-        return false;
-    }
-    run.held < 8196
+    !run.ended && run.held < 8196
 }
 
 // After a call that failed.
@@ -49,36 +48,23 @@ pub fn failed_run(run: Run) -> Run
     ensures { result ≡ failed_run run }
 {
     Run {
-        held: run.held,
-        next: run.next,
         filled: 0,
-        ended: run.ended,
         over: true,
         failed: true,
+        ..run
     }
 }
 
-// What a read answered, as a number: how many bytes it gave, or a negative number where it failed.
-pub fn answer_of(got: io::Result<usize>) -> isize
-    requires { IfOk got (λ count. count < 2 ^ 63) }
-    ensures { MatchResult got (λ count. result ≡ pos count) (λ _. result ≡ negsuc 0) }
-{
-    match got {
-        Ok(count) => count as isize,
-        Err(_) => -1,
-    }
-}
-
-// After a read, by what it answered: a negative number where it failed, else how many bytes of `rest` it gave.
-pub fn after_read(run: Run, got: isize, rest: &[u8]) -> Run
+// After a read, by what it answered: how many bytes of `rest` it gave, or that it failed.
+#[tactic(auto, unfolding(crate::specs::Runs::after_read))]
+pub fn after_read(run: Run, got: io::Result<usize>, rest: &[u8]) -> Run
     requires { run.held + length rest.now < 18446744073709551616 }
-    ensures { result ≡ after_read run got (length rest.now) }
+    ensures { result ≡ after_read run (result_ok got) (length rest.now) }
 {
-    let failed = got < 0;
-    if failed {
+    let Ok(count) = got else {
         return failed_run(run);
-    }
-    let more = rest.len().min(got as usize);
+    };
+    let more = rest.len().min(count);
     Run {
         held: run.held + more,
         next: run.next,
@@ -119,10 +105,5 @@ pub fn move_front(input: &mut [u8], from: usize, to: usize)
     requires { (from ≤ to) × (to ≤ length input.old) }
     ensures { input.new ≡ take (to - from) (drop from input.old) ++ drop (to - from) input.old }
 {
-    let count = to - from;
-    let mut i = 0;
-    while i < count {
-        input[i] = input[from + i];
-        i += 1;
-    }
+    input.copy_within(from..to, 0);
 }

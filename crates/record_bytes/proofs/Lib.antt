@@ -1,4 +1,5 @@
 -- Laws about the bytes of records. Assumes nothing.
+pub mod KindLaws
 pub mod ShapeLaws
 pub mod Parts
 pub mod PlanLaws

@@ -10,7 +10,9 @@ use Rattle.float_forms.specs.declared.forms.Form.{Form}
 use Rattle.float_forms.specs.Forms.{size_of, rays_of}
 use Rattle.float_forms.specs.Bytes.{numbers_of, words_of}
 use Rattle.record_bytes.specs.declared.shape.Plan.{Plan}
-use Rattle.record_bytes.specs.declared.shape.Planned.TheVariants.{Is, Malformed}
+use Rattle.std.specs.Prelude.{Some, None}
+use Rattle.record_bytes.specs.Kinds.{byte_of}
+use Rattle.record_bytes.proofs.KindLaws.{byte_named}
 use Rattle.record_bytes.specs.Records.{many_counts, many_numbers, many_indices, body_length, kind_of, counts_place, counts_of, said_of}
 use Rattle.record_bytes.specs.Records.{well_formed}
 use Rattle.record_bytes.specs.Plans.{plan_of, planned, Known}
@@ -19,26 +21,26 @@ use Rattle.record_bytes.proofs.ShapeLaws.{long_body}
 
 -- ---- which plan it is
 
-pub known : (form : Form) (l : List ℕ) (plan : Plan) → planned form l ≡ Is plan → Known form l plan
+pub known : (form : Form) (l : List ℕ) (plan : Plan) → planned form l ≡ Some plan → Known form l plan
 unfolding planned
 known form l plan e = go (well_formed form l) refl e
   where
-    go : (b : Bool) → well_formed form l ≡ b → cond b (Is (plan_of form l)) Malformed ≡ Is plan → Known form l plan
+    go : (b : Bool) → well_formed form l ≡ b → cond b (Some (plan_of form l)) None ≡ Some plan → Known form l plan
     go true w e = record { well_formed = w; is_plan = cc }
     go false w e = absurd (let z : ◌≡◌ {A = ℕ} 0 1 = cc in omega arith)
 
-pub not_formed : (form : Form) (l : List ℕ) → planned form l ≡ Malformed → well_formed form l ≡ false
+pub not_formed : (form : Form) (l : List ℕ) → planned form l ≡ None → well_formed form l ≡ false
 unfolding planned
 not_formed form l e = go (well_formed form l) e
   where
-    go : (b : Bool) → cond b (Is (plan_of form l)) Malformed ≡ Malformed → b ≡ false
+    go : (b : Bool) → cond b (Some (plan_of form l)) None ≡ None → b ≡ false
     go true e = absurd (let z : ◌≡◌ {A = ℕ} 0 1 = cc in omega arith)
     go false e = refl
 
 -- ---- its numbers
 
 pub record Sizes (form : Form) (l : List ℕ) (plan : Plan) : Type 0 where
-  pub kind_is : plan.kind ≡ kind_of l
+  pub kind_is : byte_of plan.kind ≡ kind_of l
   pub counts_are : plan.counts ≡ many_counts (kind_of l)
   pub numbers_are : plan.numbers ≡ many_numbers (kind_of l) (counts_of form l)
   pub indices_are : plan.indices ≡ many_indices (kind_of l) (counts_of form l)
@@ -65,7 +67,7 @@ whole_length form l g = omega (arith, g.filled)
 sizes_of : (form : Form) (l : List ℕ) → Formed form l → Sizes form l (plan_of form l)
 unfolding plan_of
 sizes_of form l g = record {
-  kind_is = refl;
+  kind_is = byte_named (kind_of l) g.kinded;
   counts_are = refl;
   numbers_are = refl;
   indices_are = refl;

@@ -11,10 +11,16 @@ use lib.ListN.{length, get_or, drop, get_or-eq_default}
 use lib.Seq.{drop-drop}
 use Rattle.float_forms.specs.declared.forms.Form.{Form}
 use Rattle.float_forms.specs.declared.forms.Form.TheVariants.{First, Long, Short}
-use Rattle.record_bytes.specs.declared.shape.Planned.TheVariants.{Is, Malformed}
+use Rattle.std.specs.Prelude.{Option, Some, None, Result, Ok, Err, MatchOption}
+use Rattle.std.specs.Result.{result_ok}
+use Rattle.record_bytes.specs.declared.kind.Kind.{Kind}
+use Rattle.record_bytes.specs.declared.kind.UnknownKind.{UnknownKind}
+use Rattle.record_bytes.specs.Kinds.{byte_of, Named}
+use Rattle.record_bytes.proofs.KindLaws.{named_kind, known_byte}
 use Rattle.float_forms.specs.Forms.{size_of, rays_of, version_of, form_of, long_form}
 use Rattle.float_forms.specs.Bytes.{word_of, words_of}
 use Rattle.record_bytes.specs.Records.{many_counts, many_numbers, many_indices, body_length, kind_of, counts_place, counts_of, framed}
+use Rattle.record_bytes.specs.Records.{is_kind}
 use Rattle.record_bytes.specs.Records.{filled}
 use Rattle.record_bytes.specs.Records.{longest, well_formed, form_at}
 use Rattle.record_bytes.specs.Plans.{capped, plan_of, filling, planned}
@@ -145,12 +151,28 @@ unfolding framed
 unframed_version form l v e h =
     rw (ne_eqb (get_or l 4 0) (version_of form) (λ k. h (k ∙ sym e))) (never (eqb (4 + word_of l) (length l)))
 
+pub unframed_unknown : (form : Form) (l : List ℕ) → is_kind (get_or l 5 0) ≡ false → false ≡ framed form l
+unfolding framed
+unframed_unknown form l h =
+    rw (h, sym (never (eqb (get_or l 4 0) (version_of form)))) (never (eqb (4 + word_of l) (length l)))
+
 pub framed_kind : (form : Form) (l : List ℕ) (w v : ℕ) → w ≡ word_of (drop 0 l) → w + 4 ≡ length l → v ≡ version_of form → get_or l 4 0 ≡ v
-    → 1 ≤ get_or l 5 0
-    → leb (get_or l 5 0) 5 ≡ framed form l
+    → is_kind (get_or l 5 0) ≡ true
+    → framed form l ≡ true
 unfolding framed
 framed_kind form l w v e h f g k =
-    rw (eq-eqb (4 + word_of l) (length l) (omega (arith, e, h)), eq-eqb (get_or l 4 0) (version_of form) (g ∙ f), le-leb 1 (get_or l 5 0) k)
+    rw (eq-eqb (4 + word_of l) (length l) (omega (arith, e, h)), eq-eqb (get_or l 4 0) (version_of form) (g ∙ f), k)
+
+-- by the kind byte, where all else is right
+pub framed_by_kind : (form : Form) (l : List ℕ) (w v : ℕ) → w ≡ word_of (drop 0 l) → w + 4 ≡ length l → v ≡ version_of form
+    → get_or l 4 0 ≡ v → (r : Result Kind UnknownKind) (o : Option Kind) → Named (get_or l 5 0) r → o ≡ result_ok r
+    → MatchOption o (framed form l ≡ false) (λ kind. (framed form l ≡ true) × (byte_of kind ≡ kind_of l))
+framed_by_kind form l w v e h f g r o n k = rw k (go r n)
+  where
+    go : (r : Result Kind UnknownKind) → Named (get_or l 5 0) r
+        → MatchOption (result_ok r) (framed form l ≡ false) (λ kind. (framed form l ≡ true) × (byte_of kind ≡ kind_of l))
+    go (Ok kind) n = (framed_kind form l w v e h f g (subst (λ (b : ℕ). is_kind b ≡ true) n (known_byte kind)), n)
+    go (Err u) n = sym (unframed_unknown form l n.1)
 
 -- ---- filled by the fields
 
@@ -184,7 +206,7 @@ counted form l kind counts numbers indices a b c k m ea eb ec n i = record {
 unfilled : (form : Form) (l : List ℕ)
     → (4 + body_length form (kind_of l) (counts_of form l) ≡ length l → body_length (long_form form) (kind_of l) (counts_of form l)
     ≤ longest → ⊥)
-    → Malformed ≡ filling form l
+    → None ≡ filling form l
 unfolding filling filled
 unfilled form l h =
     go (eqb (4 + n) (length l)) (leb m 8192) (eqb-true (4 + n) (length l)) (leb-true m 8192)
@@ -195,13 +217,13 @@ unfilled form l h =
     m : ℕ
     m = body_length (long_form form) (kind_of l) (counts_of form l)
 
-    go : (a b : Bool) → (a ≡ true → 4 + n ≡ length l) → (b ≡ true → m ≤ 8192) → Malformed ≡ cond (a && b) (Is (plan_of form l)) Malformed
+    go : (a b : Bool) → (a ≡ true → 4 + n ≡ length l) → (b ≡ true → m ≤ 8192) → None ≡ cond (a && b) (Some (plan_of form l)) None
     go true true p q = absurd (h (p refl) (q refl))
     go true false p q = refl
     go false b p q = refl
 
 pub unfilled_short : (form : Form) (l : List ℕ) (kind counts ray : ℕ) → kind ≡ kind_of l → counts ≡ many_counts kind
-    → ray ≡ size_of form * rays_of form → length l < 6 + ray + 4 * counts → Malformed ≡ filling form l
+    → ray ≡ size_of form * rays_of form → length l < 6 + ray + 4 * counts → None ≡ filling form l
 unfolding body_length
 unfilled_short form l kind counts ray k m s h =
     let e : counts ≡ many_counts (kind_of l) = m ∙ ap many_counts k in
@@ -213,7 +235,7 @@ module _ (form : Form) (l : List ℕ) (kind counts numbers indices : ℕ) (f : C
   cap : Capped (many_numbers (kind_of l) (counts_of form l)) numbers
   cap = rw f.numbers_are (is_capped (many_numbers (kind_of l) (counts_of form l)))
 
-  pub unfilled_many : 1024 < numbers → Malformed ≡ filling form l
+  pub unfilled_many : 1024 < numbers → None ≡ filling form l
   unfilled_many h = unfilled form l (λ _ g. omega (arith, g, long_body form (kind_of l) (counts_of form l), cap.more h))
 
   -- the length that was added up
@@ -225,7 +247,7 @@ module _ (form : Form) (l : List ℕ) (kind counts numbers indices : ℕ) (f : C
 
   pub unfilled_length : (sum : ℕ) → numbers ≤ 1024 → sum ≡ 2 + size_of form * rays_of form + 4 * counts + size_of form * numbers + 4
       * indices
-      → (4 + sum ≡ length l → ⊥) → Malformed ≡ filling form l
+      → (4 + sum ≡ length l → ⊥) → None ≡ filling form l
   unfilled_length sum h e g = unfilled form l (λ k _. g (ap (λ (z : ℕ). 4 + z) (lengths form sum h e) ∙ k))
 
   -- and that of the form with floats of 8 bytes
@@ -236,23 +258,23 @@ module _ (form : Form) (l : List ℕ) (kind counts numbers indices : ℕ) (f : C
 
   pub unfilled_long : (other : Form) (sum : ℕ) → other ≡ long_form form → numbers ≤ 1024
       → sum ≡ 2 + size_of other * rays_of other + 4 * counts + size_of other * numbers + 4 * indices
-      → 8192 < sum → Malformed ≡ filling form l
+      → 8192 < sum → None ≡ filling form l
   unfilled_long other sum o h e g = unfilled form l (λ _ k. omega (arith, g, k, long_lengths other sum o h e))
 
-  pub fills : (other : Form) (sum long : ℕ) → other ≡ long_form form → numbers ≤ 1024
+  pub fills : (named : Kind) → byte_of named ≡ kind → (other : Form) (sum long : ℕ) → other ≡ long_form form → numbers ≤ 1024
       → sum ≡ 2 + size_of form * rays_of form + 4 * counts + size_of form * numbers + 4 * indices
       → 4 + sum ≡ length l
       → long ≡ 2 + size_of other * rays_of other + 4 * counts + size_of other * numbers + 4 * indices → long ≤ 8192
-      → Is record { kind = kind; counts = counts; numbers = numbers; indices = indices } ≡ filling form l
+      → Some record { kind = named; counts = counts; numbers = numbers; indices = indices } ≡ filling form l
   unfolding filling filled plan_of
-  fills other sum long o h e g d k =
+  fills named n other sum long o h e g d k =
       let whole : 4 + body_length form (kind_of l) (counts_of form l) ≡ length l = ap (λ (z : ℕ). 4 + z) (sym (lengths form sum h e)) ∙ g in
       let small : body_length (long_form form) (kind_of l) (counts_of form l) ≤ longest = subst (λ (z : ℕ). z ≤ longest)
       (long_lengths other long o h d) k in
       rw (
         eq-eqb (4 + body_length form (kind_of l) (counts_of form l)) (length l) whole,
         le-leb (body_length (long_form form) (kind_of l) (counts_of form l)) 8192 small,
-        f.kind_is,
+        named_kind named (kind_of l) (n ∙ f.kind_is),
         f.counts_are,
         f.indices_are,
         sym (cap.few h),
@@ -260,7 +282,7 @@ module _ (form : Form) (l : List ℕ) (kind counts numbers indices : ℕ) (f : C
 
 -- ---- the plan of a whole record
 
-pub unplanned : (form : Form) (l : List ℕ) → framed form l ≡ false → Malformed ≡ planned form l
+pub unplanned : (form : Form) (l : List ℕ) → framed form l ≡ false → None ≡ planned form l
 unfolding planned well_formed
 unplanned form l h = rw h
 
@@ -289,9 +311,11 @@ numbers_four kind a b c p r k e f =
     let one : a * b * 1 ≡ a * b = mul-one (a * b) in
     rw k (f ∙ (rw (e, one) (capped_sum 2 (a * b))))
 
-pub numbers_five : (kind a b c p r : ℕ) → (kind ≡ 1 → ⊥) → (kind ≡ 2 → ⊥) → (kind ≡ 3 → ⊥) → (kind ≡ 4 → ⊥) → p ≡ capped (a * b * c)
-    → r ≡ capped (6 + p)
+pub numbers_five : (kind a b c p r : ℕ) → kind ≡ 5 → p ≡ capped (a * b * c) → r ≡ capped (6 + p)
     → r ≡ capped (many_numbers kind (a ∷ (b ∷ (c ∷ []))))
 unfolding many_numbers
-numbers_five kind a b c p r n1 n2 n3 n4 e f =
-    rw (ne_eqb kind 1 n1, ne_eqb kind 2 n2, ne_eqb kind 3 n3, ne_eqb kind 4 n4) (f ∙ (rw e (capped_sum 6 (a * b * c))))
+numbers_five kind a b c p r k e f = rw k (f ∙ (rw e (capped_sum 6 (a * b * c))))
+
+-- ---- for `record_bytes::shape::product`
+
+pub ruleset products = (product_fits, is_capped, capped_product)

@@ -1,11 +1,10 @@
 -- Inner contracts only: what a reader finds out of a record before it looks at a float. Definitions only. Assumes nothing.
-use Rattle.std.specs.Prelude.{ℕ, ◌+◌, ◌*◌, ◌≡◌, true, cond, List, ltb}
+use Rattle.std.specs.Prelude.{ℕ, ◌+◌, ◌*◌, ◌≡◌, true, cond, List, ltb, Option, Some, None}
 use Rattle.float_forms.specs.declared.forms.Form.{Form}
 use Rattle.record_bytes.specs.declared.shape.Plan.{Plan}
-use Rattle.record_bytes.specs.declared.shape.Planned.{Planned}
-use Rattle.record_bytes.specs.declared.shape.Planned.TheVariants.{Is, Malformed}
 use Rattle.float_forms.specs.Forms.{size_of, rays_of}
 use Rattle.record_bytes.specs.Records.{many_counts, many_numbers, many_indices, kind_of, counts_of, filled, well_formed}
+use Rattle.record_bytes.specs.Kinds.{kind_named}
 
 -- 8 · 1,025 passes 8,192
 unfoldable pub capped : ℕ → ℕ
@@ -13,17 +12,17 @@ capped count = cond (ltb 1024 count) 1025 count
 
 unfoldable pub plan_of : Form → List ℕ → Plan
 plan_of form bytes = record {
-  kind = kind_of bytes;
+  kind = kind_named (kind_of bytes);
   counts = many_counts (kind_of bytes);
   numbers = many_numbers (kind_of bytes) (counts_of form bytes);
   indices = many_indices (kind_of bytes) (counts_of form bytes);
 }
 
-unfoldable pub filling : Form → List ℕ → Planned
-filling form bytes = cond (filled form bytes) (Is (plan_of form bytes)) Malformed
+unfoldable pub filling : Form → List ℕ → Option Plan
+filling form bytes = cond (filled form bytes) (Some (plan_of form bytes)) None
 
-unfoldable pub planned : Form → List ℕ → Planned
-planned form bytes = cond (well_formed form bytes) (Is (plan_of form bytes)) Malformed
+unfoldable pub planned : Form → List ℕ → Option Plan
+planned form bytes = cond (well_formed form bytes) (Some (plan_of form bytes)) None
 
 -- a well-formed record's plan
 pub record Known (form : Form) (bytes : List ℕ) (plan : Plan) : Type 0 where

@@ -25,6 +25,8 @@
 
 #![tactic(auto)]
 
+// The kinds of shape.
+pub mod kind;
 // Which records are well formed, and how many numbers they have.
 pub mod shape;
 // Where a record ends in a stream.

@@ -1,8 +1,10 @@
-ghost use Rattle.std.specs.Prelude.{◌≡◌, [], ◌∷◌, ◌+◌, ◌*◌, ◌<◌, ◌≤◌, length, get_or};
+ghost use Rattle.std.specs.Prelude.{◌≡◌, true, false, [], ◌∷◌, ◌+◌, ◌*◌, ◌<◌, ◌≤◌, length, get_or, MatchOption};
 ghost use Rattle.float_forms.specs.Forms.{size_of, rays_of};
 ghost use Rattle.record_bytes.specs.Records.{many_counts, many_numbers, many_indices, kind_of, counts_of, framed, form_at};
+ghost use Rattle.record_bytes.specs.Kinds.{byte_of};
 ghost use Rattle.record_bytes.specs.Plans.{capped, filling, planned};
 
+use crate::kind::Kind;
 use float_forms::forms::Form;
 use float_forms::{bytes, forms};
 
@@ -10,37 +12,30 @@ use float_forms::{bytes, forms};
 pub const LONGEST: usize = 8192;
 
 // How many u32, floats and u32 follow the ray's floats, in a well-formed record of a kind.
-#[derive(Clone, Copy)]
+#[derive(Clone, Copy, Debug, PartialEq, Eq)]
 pub struct Plan {
-    pub kind: u8,
+    pub kind: Kind,
     pub counts: usize,
     pub numbers: usize,
     pub indices: usize,
 }
 
-#[derive(Clone, Copy)]
-pub enum Planned {
-    Is(Plan),
-    Malformed,
-}
-
 // How many u32 come first.
-fn many_counts(kind: u8) -> usize
-    ensures { (result ≡ many_counts kind) × (result ≤ 3) }
+#[tactic(auto, unfolding(crate::specs::Records::many_counts))]
+fn many_counts(kind: Kind) -> usize
+    ensures { (result ≡ many_counts (byte_of kind)) × (result ≤ 3) }
 {
-    if kind == 3 {
-        return 2;
+    match kind {
+        Kind::Plane => 0,
+        Kind::Triangle => 0,
+        Kind::Mesh => 2,
+        Kind::HeightGrid => 2,
+        Kind::DistanceGrid => 3,
     }
-    if kind == 4 {
-        return 2;
-    }
-    if kind == 5 {
-        return 3;
-    }
-    0
 }
 
 // A count, or 1,025 if it is more: no record holds so many floats, and its product with a u32 fits.
+#[tactic(auto, using(crate::proofs::ShapeLaws::capped_more, crate::proofs::ShapeLaws::capped_few))]
 fn capped(count: usize) -> usize
     ensures { result ≡ capped count }
 {
@@ -51,6 +46,7 @@ fn capped(count: usize) -> usize
 }
 
 // The product of three u32, capped.
+#[tactic(auto, using(crate::proofs::ShapeLaws::products))]
 fn product(a: usize, b: usize, c: usize) -> usize
     requires { (a < 4294967296) × ((b < 4294967296) × (c < 4294967296)) }
     ensures { (result ≡ capped (a * b * c)) × (result ≤ 1025) }
@@ -60,34 +56,29 @@ fn product(a: usize, b: usize, c: usize) -> usize
 }
 
 // How many floats follow the counts, capped.
-fn many_numbers(kind: u8, a: usize, b: usize, c: usize) -> usize
+fn many_numbers(kind: Kind, a: usize, b: usize, c: usize) -> usize
     requires { (a < 4294967296) × ((b < 4294967296) × (c < 4294967296)) }
-    ensures { result ≡ capped (many_numbers kind (a ∷ (b ∷ (c ∷ [])))) }
+    ensures { result ≡ capped (many_numbers (byte_of kind) (a ∷ (b ∷ (c ∷ [])))) }
 {
-    if kind == 1 {
-        return 4;
+    match kind {
+        Kind::Plane => 4,
+        Kind::Triangle => 9,
+        Kind::Mesh => capped(3 * a),
+        Kind::HeightGrid => capped(2 + product(a, b, 1)),
+        Kind::DistanceGrid => capped(6 + product(a, b, c)),
     }
-    if kind == 2 {
-        return 9;
-    }
-    if kind == 3 {
-        return capped(3 * a);
-    }
-    if kind == 4 {
-        return capped(2 + product(a, b, 1));
-    }
-    capped(6 + product(a, b, c))
 }
 
 // How many u32 follow these.
-fn many_indices(kind: u8, b: usize) -> usize
+#[tactic(auto, unfolding(crate::specs::Records::many_indices))]
+fn many_indices(kind: Kind, b: usize) -> usize
     requires { b < 4294967296 }
-    ensures { (result ≡ many_indices kind (0 ∷ (b ∷ []))) × (result < 12884901888) }
+    ensures { (result ≡ many_indices (byte_of kind) (0 ∷ (b ∷ []))) × (result < 12884901888) }
 {
-    if kind == 3 {
-        return 3 * b;
+    match kind {
+        Kind::Mesh => 3 * b,
+        _ => 0,
     }
-    0
 }
 
 // The bytes of a ray.
@@ -102,8 +93,9 @@ fn ray_length(form: Form) -> usize
 }
 
 // The i-th count of a record, 0 if it has none.
-fn count_at(form: Form, source: &[u8], kind: u8, i: usize) -> usize
-    requires { (kind ≡ kind_of source.now) × (6 + size_of form * rays_of form + 4 * many_counts kind ≤ length source.now) }
+fn count_at(form: Form, source: &[u8], kind: Kind, i: usize) -> usize
+    requires { (byte_of kind ≡ kind_of source.now)
+        × (6 + size_of form * rays_of form + 4 * many_counts (byte_of kind) ≤ length source.now) }
     ensures { (result ≡ get_or (counts_of form source.now) i 0) × (result < 4294967296) }
 {
     if i < many_counts(kind) {
@@ -142,36 +134,33 @@ pub fn numbers_place(form: Form, counts: usize) -> usize
     6 + ray_length(form) + 4 * counts
 }
 
-// Whether the length bytes, the version and the kind are those of one record of a form.
-fn is_framed(form: Form, source: &[u8]) -> bool
-    ensures { result ≡ framed form source.now }
+// The kind of a record of a form, if its length bytes, its version and its kind are right.
+fn framed_kind(form: Form, source: &[u8]) -> Option<Kind>
+    ensures { MatchOption result (framed form source.now ≡ false)
+        (λ kind. (framed form source.now ≡ true) × (byte_of kind ≡ kind_of source.now)) }
 {
     let length = source.len();
     if length < 6 {
-        return false;
+        return None;
     }
     if bytes::word_at(source, 0) + 4 != length as u64 {
-        return false;
+        return None;
     }
-    if source[4] != forms::version_of(form) {
-        return false;
+    if source[4] != u8::from(form) {
+        return None;
     }
-    let kind = source[5];
-    if kind < 1 {
-        return false;
-    }
-    kind <= 5
+    Kind::try_from(source[5]).ok()
 }
 
 // The plan of a record whose first six bytes are right.
-fn filled_by(form: Form, source: &[u8], kind: u8) -> Planned
-    requires { kind ≡ kind_of source.now }
+fn filled_by(form: Form, source: &[u8], kind: Kind) -> Option<Plan>
+    requires { byte_of kind ≡ kind_of source.now }
     ensures { result ≡ filling form source.now }
 {
     let length = source.len();
     let counts = many_counts(kind);
     if length < 6 + ray_length(form) + 4 * counts {
-        return Planned::Malformed;
+        return None;
     }
     let a = count_at(form, source, kind, 0);
     let b = count_at(form, source, kind, 1);
@@ -179,24 +168,25 @@ fn filled_by(form: Form, source: &[u8], kind: u8) -> Planned
     let numbers = many_numbers(kind, a, b, c);
     let indices = many_indices(kind, b);
     if numbers > 1024 {
-        return Planned::Malformed;
+        return None;
     }
     if 4 + body_length(form, counts, numbers, indices) != length {
-        return Planned::Malformed;
+        return None;
     }
-    let long = forms::long_form(form);
+    let long = form.long_form();
     if body_length(long, counts, numbers, indices) > LONGEST {
-        return Planned::Malformed;
+        return None;
     }
-    Planned::Is(Plan {
-        kind: kind,
-        counts: counts,
-        numbers: numbers,
-        indices: indices,
+    Some(Plan {
+        kind,
+        counts,
+        numbers,
+        indices,
     })
 }
 
 // The form that a record's version byte names.
+#[tactic(auto, using(crate::proofs::ShapeLaws::no_version), unfolding(crate::specs::Records::form_at))]
 pub fn form_at(source: &[u8]) -> Form
     ensures { result ≡ form_at source.now }
 {
@@ -207,14 +197,9 @@ pub fn form_at(source: &[u8]) -> Form
 }
 
 // The plan of exactly one well-formed record of a form.
-pub fn plan_of(form: Form, source: &[u8]) -> Planned
+pub fn plan_of(form: Form, source: &[u8]) -> Option<Plan>
     ensures { result ≡ planned form source.now }
 {
-    if !is_framed(form, source) {
-        return Planned::Malformed;
-    }
-    if source.len() < 6 {
-        return Planned::Malformed;
-    }
-    filled_by(form, source, source[5])
+    let kind = framed_kind(form, source)?;
+    filled_by(form, source, kind)
 }

@@ -5,7 +5,7 @@ use crate::shape;
 use float_forms::bytes;
 
 // What stands at the front of a stream.
-#[derive(Clone, Copy)]
+#[derive(Clone, Copy, Debug, PartialEq, Eq)]
 pub enum Found {
     // A record of that many bytes, the four of its length among them.
     Record(usize),
@@ -16,10 +16,11 @@ pub enum Found {
 }
 
 // The first record of a stream. The stream's first 8,196 bytes are enough, since no record is longer.
+#[tactic(auto, unfolding(crate::specs::Stream::next_of))]
 pub fn next(bytes: &[u8]) -> Found
     ensures { result ≡ next_of bytes.now }
 {
-    if bytes.len() == 0 {
+    if bytes.is_empty() {
         return Found::End;
     }
     if bytes.len() < 4 {

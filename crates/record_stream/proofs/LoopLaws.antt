@@ -4,7 +4,7 @@ use mathlib.Core.Path.{◌≡◌, refl, sym, ap, subst, ◌∙◌}
 use mathlib.Core.Bool.{Bool, true, false, not, cond, ◌&&◌, ◌||◌, false≢true, true≢false}
 use mathlib.Core.List.{List, ◌++◌, append_assoc}
 use native.Mathlib.Omega.{arith}
-use borrow.Author.Tests.{leb-true, leb-false, lt-leb, le-leb}
+use borrow.Author.Tests.{leb-true}
 use lib.Dec.{leb}
 use lib.ListN.{length, take, drop, length-append, length-drop}
 use lib.Seq.{length-take-le, take_at, sets-eq, drop-drop}
@@ -64,31 +64,6 @@ goes s ended input room w h =
       ));
     }
     go false oe true p false ee false q h = absurd (false≢true h)
-
-pub over_stops : (s : Progress) (ended : Bool) (length room : ℕ) → s.over ≡ true → false ≡ goes_on s ended length room
-unfolding goes_on
-over_stops s ended length room h = rw h
-
-pub full_stops : (s : Progress) (ended : Bool) (length room : ℕ) → s.over ≡ false → s.filled ≤ room → room - s.filled < 114
-    → false ≡ goes_on s ended length room
-unfolding goes_on
-full_stops s ended length room o f h = rw (o, lt-leb (s.filled + 114) room (omega (arith, f, h)))
-
-pub ended_goes : (s : Progress) (ended : Bool) (length room : ℕ) → s.over ≡ false → 114 ≤ room - s.filled → ended ≡ true
-    → true ≡ goes_on s ended length room
-unfolding goes_on
-ended_goes s ended length room o h e = rw (o, le-leb (s.filled + 114) room (omega (arith, h)), e)
-
-pub left_decides : (s : Progress) (ended : Bool) (length room : ℕ) → s.over ≡ false → 114 ≤ room - s.filled → ended ≡ false
-    → s.used ≤ length
-    → leb 8196 (length - s.used) ≡ goes_on s ended length room
-unfolding goes_on
-left_decides s ended length room o h e u =
-    rw (o, le-leb (s.filled + 114) room (omega (arith, h)), e) (go (leb 8196 (length - s.used)) refl)
-  where
-    go : (b : Bool) → leb 8196 (length - s.used) ≡ b → b ≡ leb (s.used + 8196) length
-    go true k = sym (le-leb (s.used + 8196) length (omega (arith, leb-true 8196 (length - s.used) k, u)))
-    go false k = sym (lt-leb (s.used + 8196) length (omega (arith, leb-false 8196 (length - s.used) k, u)))
 
 -- ---- the loop
 

@@ -4,10 +4,11 @@ ghost use Rattle.record_stream.specs.Progress.{step_of, Stepped, Answered, goes_
 
 use record_bytes::stream;
 use record_bytes::stream::Found;
+use records::areas::WorkAreas;
 use records::lines;
 
 // How far the input is answered.
-#[derive(Clone, Copy)]
+#[derive(Clone, Copy, Debug, PartialEq, Eq)]
 pub struct Progress {
     // How many bytes of the input are used.
     pub used: usize,
@@ -24,34 +25,14 @@ fn record_step(
     s: Progress,
     rest: &[u8],
     end: usize,
-    work: &mut [f64; 1024],
-    triangles: &mut [u32; 2031],
-    node_boxes: &mut [f64; 8124],
-    triangle_boxes: &mut [f64; 4062],
-    node_words: &mut [u32; 4062],
-    order: &mut [u32; 677],
-    list: &mut [u32; 677],
-    stack: &mut [u32; 1355],
+    areas: &mut WorkAreas,
     output: &mut [u8],
 ) -> Progress
     requires { ((end ≤ length rest.now) × (s.filled + 114 ≤ length output.old)) × ((s.next < 18446744073709551615)
         × (s.used + end < 18446744073709551616)) }
     ensures { Stepped (step_of s.next rest.now (Found.Record end)) s result output.old output.new }
 {
-    let printed = lines::line(
-        s.next,
-        &rest[..end],
-        work,
-        triangles,
-        node_boxes,
-        triangle_boxes,
-        node_words,
-        order,
-        list,
-        stack,
-        output,
-        s.filled,
-    );
+    let printed = lines::line(s.next, &rest[..end], areas, output, s.filled);
     Progress {
         used: s.used + end,
         filled: printed.end,
@@ -61,93 +42,39 @@ fn record_step(
 }
 
 // After the record at the front of what is left, whatever stands there.
-fn step(
-    s: Progress,
-    input: &[u8],
-    work: &mut [f64; 1024],
-    triangles: &mut [u32; 2031],
-    node_boxes: &mut [f64; 8124],
-    triangle_boxes: &mut [f64; 4062],
-    node_words: &mut [u32; 4062],
-    order: &mut [u32; 677],
-    list: &mut [u32; 677],
-    stack: &mut [u32; 1355],
-    output: &mut [u8],
-) -> Progress
+fn step(s: Progress, input: &[u8], areas: &mut WorkAreas, output: &mut [u8]) -> Progress
     requires { ((s.used ≤ length input.now) × (s.filled + 114 ≤ length output.old)) × (s.next < 18446744073709551615) }
     ensures { Stepped (step_of s.next (drop s.used input.now) (next_of (drop s.used input.now))) s result
         output.old output.new }
 {
-    let used = s.used;
-    let rest = &input[used..];
-    let found = stream::next(rest);
-    match found {
-        Found::Record(end) => {
-            return record_step(
-                s,
-                rest,
-                end,
-                work,
-                triangles,
-                node_boxes,
-                triangle_boxes,
-                node_words,
-                order,
-                list,
-                stack,
-                output,
-            );
-        }
-        Found::Cut => {
-            return Progress {
-                used: used,
-                filled: lines::bad_line(s.next, output, s.filled),
-                next: s.next,
-                over: true,
-            };
-        }
-        Found::End => {
-            return Progress {
-                used: used,
-                filled: s.filled,
-                next: s.next,
-                over: true,
-            };
-        }
+    let rest = &input[s.used..];
+    match stream::next(rest) {
+        Found::Record(end) => record_step(s, rest, end, areas, output),
+        Found::Cut => Progress {
+            filled: lines::bad_line(s.next, output, s.filled),
+            over: true,
+            ..s
+        },
+        Found::End => Progress { over: true, ..s },
     }
 }
 
 // Whether another record is answered: no malformed one or end was met, a line has room, and the input has a whole record left.
+#[tactic(auto, unfolding(crate::specs::Progress::goes_on))]
 fn goes_on(s: Progress, ended: bool, length: usize, room: usize) -> bool
     requires { (s.filled ≤ room) × (s.used ≤ length) }
     ensures { result ≡ goes_on s ended length room }
 {
-    if s.over {
-        return false;
-    }
-    if room - s.filled < 114 {
-        return false;
-    }
-    if ended {
-        return true;
-    }
-    length - s.used >= 8196
+    !s.over && room - s.filled >= 114 && (ended || length - s.used >= 8196)
 }
 
-// The lines for the input, which goes on unless `ended`, at the front of the output area: as many as have room. All areas between are work
-// areas, which may hold anything afterwards. No public call: the caller shows that record numbers do not run out.
+// The lines for the input, which goes on unless `ended`, at the front of the output area: as many as have room. No
+// public call: the caller shows that record numbers do not run out.
 pub fn answer_records(
     number: u64,
     ended: bool,
     input: &[u8],
-    work: &mut [f64; 1024],
-    triangles: &mut [u32; 2031],
-    node_boxes: &mut [f64; 8124],
-    triangle_boxes: &mut [f64; 4062],
-    node_words: &mut [u32; 4062],
-    order: &mut [u32; 677],
-    list: &mut [u32; 677],
-    stack: &mut [u32; 1355],
+    areas: &mut WorkAreas,
     output: &mut [u8],
 ) -> Progress
     requires { number + length input.now < 18446744073709551615 }
@@ -162,20 +89,9 @@ pub fn answer_records(
         next: number,
         over: false,
     };
+    // How many records there are is known only as they are read.
     while goes_on(s, ended, input.len(), output.len()) {
-        s = step(
-            s,
-            input,
-            work,
-            triangles,
-            node_boxes,
-            triangle_boxes,
-            node_words,
-            order,
-            list,
-            stack,
-            output,
-        );
+        s = step(s, input, areas, output);
     }
     s
 }

@@ -1,11 +1,15 @@
 -- The parts of an answer, stored one behind another, are its text. Assumes nothing.
 use Prim.Native.Nat.{ℕ}
-use mathlib.Core.Path.{◌≡◌, ap}
+use mathlib.Core.Path.{◌≡◌, ap, ◌∙◌}
+use Rattle.std.specs.Prelude.{Option, Some, None, Result, Ok}
 use mathlib.Core.List.{List, [], ◌∷◌, ◌++◌}
 use lib.Ieee.{Float}
 use Rattle.vectors.specs.declared.vec3.Vec3.{Vec3}
-use Rattle.casts.specs.Answer.{Answer, hit, none, refused}
-use Rattle.nearest_hit.specs.Nearest.{Indexed, hit_at, no_hit, stopped}
+use Rattle.casts.specs.declared.answer.Hit.{Hit}
+use Rattle.casts.specs.declared.answer.Refusal.{Refusal}
+use Rattle.casts.specs.Answer.{Answer, hit, none, refused, says}
+use Rattle.nearest_hit.specs.declared.nearest.IndexedHit.{IndexedHit}
+use Rattle.nearest_hit.specs.Nearest.{Indexed, hit_at, no_hit, stopped, says_indexed}
 use Rattle.record_text.specs.Text.{decimal, hexadecimal, printed_bits, Put}
 use Rattle.record_text.specs.AnswerText.{hit_word, none_word, refused_word, float_text, hit_text, answer_text, indexed_text}
 use Rattle.record_text.proofs.Storing.{put_then}
@@ -39,6 +43,15 @@ pub refused_case : (a : Answer) (number : ℕ) → a ≡ refused number → refu
 unfolding answer_text
 refused_case a number e = rw e
 
+-- the code's answer's cases
+pub hit_said : (cast : Result (Option Hit) Refusal) (found : Option Hit) (h : Hit) → cast ≡ Ok found → found ≡ Some h
+    → hit_text h.normal h.distance ≡ answer_text (says cast)
+hit_said cast found h e f = hit_case (says cast) h.normal h.distance (ap says (e ∙ ap Ok f))
+
+pub none_said : (cast : Result (Option Hit) Refusal) (found : Option Hit) → cast ≡ Ok found → found ≡ None
+    → none_word ≡ answer_text (says cast)
+none_said cast found e f = none_case (says cast) (ap says (e ∙ ap Ok f))
+
 -- a mesh's answer's cases
 pub indexed_hit : (a : Indexed) (normal : Vec3) (distance : Float) (index : ℕ) → a ≡ hit_at normal distance index
     → (hit_text normal distance ++ (32 ∷ [])) ++ decimal index ≡ indexed_text a
@@ -52,3 +65,13 @@ indexed_none a e = rw e
 pub indexed_refused : (a : Indexed) (number : ℕ) → a ≡ stopped number → refused_word ++ decimal number ≡ indexed_text a
 unfolding indexed_text
 indexed_refused a number e = rw e
+
+-- the code's answer's cases
+pub indexed_hit_said : (cast : Result (Option IndexedHit) Refusal) (found : Option IndexedHit) (h : IndexedHit) → cast ≡ Ok found
+    → found ≡ Some h
+    → (hit_text h.normal h.distance ++ (32 ∷ [])) ++ decimal h.index ≡ indexed_text (says_indexed cast)
+indexed_hit_said cast found h e f = indexed_hit (says_indexed cast) h.normal h.distance h.index (ap says_indexed (e ∙ ap Ok f))
+
+pub indexed_none_said : (cast : Result (Option IndexedHit) Refusal) (found : Option IndexedHit) → cast ≡ Ok found → found ≡ None
+    → none_word ≡ indexed_text (says_indexed cast)
+indexed_none_said cast found e f = indexed_none (says_indexed cast) (ap says_indexed (e ∙ ap Ok f))

@@ -1,11 +1,11 @@
 ghost use Rattle.std.specs.Prelude.{[], ◌∷◌, ◌++◌, ◌+◌, ◌≤◌, length};
-ghost use Rattle.casts.specs.Answer.{says};
+ghost use Rattle.casts.specs.Answer.{says, number_of};
 ghost use Rattle.nearest_hit.specs.Nearest.{says_indexed};
 ghost use Rattle.record_text.specs.Text.{Put, decimal};
 ghost use Rattle.record_text.specs.AnswerText.{refused_word, float_text, hit_text, answer_text, indexed_text};
 
 use crate::text;
-use casts::answer::Cast;
+use casts::answer::{Cast, Refusal};
 use nearest_hit::nearest::IndexedCast;
 use vectors::vec3::Vec3;
 
@@ -34,12 +34,12 @@ fn put_hit(out: &mut [u8], at: usize, normal: Vec3, distance: f64) -> usize
 }
 
 // The word and the number of a refusal.
-fn put_refused(out: &mut [u8], at: usize, number: u32) -> usize
+fn put_refused(out: &mut [u8], at: usize, refusal: Refusal) -> usize
     requires { at + 28 ≤ length out.old }
-    ensures { Put out.old at (refused_word ++ decimal number) out.new result }
+    ensures { Put out.old at (refused_word ++ decimal (number_of refusal)) out.new result }
 {
     let word = text::put_text(out, at, b"refused ");
-    text::put_decimal(out, word, number as u64)
+    text::put_decimal(out, word, u64::from(u32::from(refusal)))
 }
 
 // An answer's text.
@@ -48,15 +48,9 @@ pub fn put_answer(out: &mut [u8], at: usize, cast: Cast) -> usize
     ensures { Put out.old at (answer_text (says cast)) out.new result }
 {
     match cast {
-        Cast::Hit { normal, distance } => {
-            return put_hit(out, at, normal, distance);
-        }
-        Cast::None => {
-            return text::put_text(out, at, b"none");
-        }
-        Cast::Refused(number) => {
-            return put_refused(out, at, number);
-        }
+        Ok(Some(hit)) => put_hit(out, at, hit.normal, hit.distance),
+        Ok(None) => text::put_text(out, at, b"none"),
+        Err(refusal) => put_refused(out, at, refusal),
     }
 }
 
@@ -66,21 +60,13 @@ pub fn put_indexed(out: &mut [u8], at: usize, cast: IndexedCast) -> usize
     ensures { Put out.old at (indexed_text (says_indexed cast)) out.new result }
 {
     match cast {
-        IndexedCast::Hit {
-            normal,
-            distance,
-            index,
-        } => {
-            let behind = put_hit(out, at, normal, distance);
+        Ok(Some(hit)) => {
+            let behind = put_hit(out, at, hit.normal, hit.distance);
             let next = text::put_byte(out, behind, b' ');
-            return text::put_decimal(out, next, index as u64);
+            text::put_decimal(out, next, u64::from(hit.index))
         }
-        IndexedCast::None => {
-            return text::put_text(out, at, b"none");
-        }
-        IndexedCast::Refused(number) => {
-            return put_refused(out, at, number);
-        }
+        Ok(None) => text::put_text(out, at, b"none"),
+        Err(refusal) => put_refused(out, at, refusal),
     }
 }
 

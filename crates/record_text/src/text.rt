@@ -4,6 +4,7 @@ ghost use Rattle.record_text.specs.Text.{glyph, digits, places_of, decimal, hexa
 // The functions that store a text in an area take the place of its first byte and return the place behind its last.
 
 // The ASCII code of a digit.
+#[tactic(auto, unfolding(crate::specs::Text::glyph))]
 fn glyph(digit: u64) -> u8
     requires { digit < 16 }
     ensures { result ≡ glyph digit }
@@ -28,12 +29,9 @@ pub fn put_text(out: &mut [u8], at: usize, text: &[u8]) -> usize
     requires { at + length text.now ≤ length out.old }
     ensures { Put out.old at text.now out.new result }
 {
-    let mut i = 0;
-    while i < text.len() {
-        out[at + i] = text[i];
-        i += 1;
-    }
-    at + i
+    let end = at + text.len();
+    out[at..end].copy_from_slice(text);
+    end
 }
 
 // The last k digits of a number.
@@ -62,6 +60,7 @@ fn places(n: u64, most: usize) -> usize
 }
 
 // A number in at most 20 decimal digits, from a place on.
+#[tactic(auto, using(crate::proofs::Places::places_at_most), unfolding(crate::specs::Text::decimal))]
 pub fn put_decimal(out: &mut [u8], at: usize, n: u64) -> usize
     requires { at + 20 ≤ length out.old }
     ensures { Put out.old at (decimal n) out.new result }
@@ -71,6 +70,7 @@ pub fn put_decimal(out: &mut [u8], at: usize, n: u64) -> usize
 }
 
 // A number in 16 hexadecimal digits, from a place on.
+#[tactic(auto, unfolding(crate::specs::Text::hexadecimal))]
 pub fn put_hexadecimal(out: &mut [u8], at: usize, n: u64) -> usize
     requires { at + 16 ≤ length out.old }
     ensures { Put out.old at (hexadecimal n) out.new result }
@@ -79,6 +79,7 @@ pub fn put_hexadecimal(out: &mut [u8], at: usize, n: u64) -> usize
 }
 
 // The bits that are printed for a float: its own, and of one NaN for every NaN.
+#[tactic(auto, using(arithmetic::proofs::Order::ne_self_is_nan), unfolding(crate::specs::Text::printed_bits))]
 pub fn printed_bits(x: f64) -> u64
     ensures { result ≡ printed_bits x }
 {

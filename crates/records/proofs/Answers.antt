@@ -1,6 +1,6 @@
 -- What the cast at a shape answers is the record's text; and the parts of a line, stored one behind another, are the line. Assumes nothing.
 use Prim.Native.Nat.{ℕ, ◌+◌, ◌-◌, ◌*◌, ◌≤◌}
-use mathlib.Core.Path.{◌≡◌, sym, ap, ◌∙◌}
+use mathlib.Core.Path.{◌≡◌, refl, sym, ap, ◌∙◌}
 use mathlib.Core.Bool.{Bool, true, false, not}
 use mathlib.Core.List.{List, [], ◌∷◌, ◌++◌}
 use native.Mathlib.Omega.{arith}
@@ -20,6 +20,9 @@ use Rattle.distance_grid.specs.declared.grid.Grid.{Grid}
 use Rattle.tree.specs.Mesh.{mesh}
 use Rattle.float_forms.specs.declared.forms.Form.{Form}
 use Rattle.record_bytes.specs.Records.{many_counts, many_numbers, said_of, well_formed, form_at, is_record}
+use Rattle.record_bytes.specs.declared.kind.Kind.{Kind}
+use Rattle.record_bytes.specs.declared.kind.Kind.TheVariants.{Plane, Triangle, Mesh, HeightGrid, DistanceGrid}
+use Rattle.record_bytes.specs.Kinds.{byte_of}
 use Rattle.record_text.specs.Text.{decimal, Put}
 use Rattle.record_text.specs.AnswerText.{answer_text, indexed_text}
 use Rattle.record_text.proofs.Storing.{put_then}
@@ -57,17 +60,26 @@ module _ (ray : Ray) (kind : ℕ) (counts : List ℕ) (numbers : List Float) (a 
   unfolding shape_from shape_text
   heights_answer k e = rw (k, e)
 
-  pub values_answer : (kind ≡ 1 → ⊥) → (kind ≡ 2 → ⊥) → (kind ≡ 3 → ⊥) → (kind ≡ 4 → ⊥)
-      → a ≡ ray_level_set ray (grid_by counts numbers) (drop 6 numbers)
+  pub values_answer : kind ≡ 5 → a ≡ ray_level_set ray (grid_by counts numbers) (drop 6 numbers)
       → answer_text a ≡ shape_text ray (shape_from kind counts numbers [])
   unfolding shape_from shape_text
-  values_answer i j l k e = simp (ne_eqb kind 1 i, ne_eqb kind 2 j, ne_eqb kind 3 l, ne_eqb kind 4 k, e)
+  values_answer k e = rw (k, e)
 
 -- the kind that is left
-only_five : {kind : ℕ} → 1 ≤ kind → kind ≤ 5 → (kind ≡ 1 → ⊥) → (kind ≡ 2 → ⊥) → (kind ≡ 3 → ⊥) → (kind ≡ 4 → ⊥) → kind ≡ 5
-only_five {kind} low high i j l m =
-    let above : 3 ≤ kind = omega (arith, low, i, j) in
-    omega (arith, above, high, l, m)
+pub only_distances : (kind : Kind) → (kind ≡ Plane → ⊥) → (kind ≡ Triangle → ⊥) → (byte_of kind ≡ 3 → ⊥) → (kind ≡ HeightGrid → ⊥)
+    → byte_of kind ≡ 5
+only_distances Plane i j l m = absurd (i refl)
+only_distances Triangle i j l m = absurd (j refl)
+only_distances Mesh i j l m = absurd (l refl)
+only_distances HeightGrid i j l m = absurd (m refl)
+only_distances DistanceGrid i j l m = refl
+
+pub no_mesh : (kind : Kind) → (kind ≡ Mesh → ⊥) → byte_of kind ≡ 3 → ⊥
+no_mesh Plane n e = absurd (omega (arith, e))
+no_mesh Triangle n e = absurd (omega (arith, e))
+no_mesh Mesh n e = n refl
+no_mesh HeightGrid n e = absurd (omega (arith, e))
+no_mesh DistanceGrid n e = absurd (omega (arith, e))
 
 -- how many counts and floats each kind has
 module _ {kind : ℕ} {counts : List ℕ} {numbers : List Float} (s : Sized kind counts numbers) where
@@ -86,10 +98,9 @@ module _ {kind : ℕ} {counts : List ℕ} {numbers : List Float} (s : Sized kind
       let n : length numbers ≡ 2 + get_or counts 0 0 * get_or counts 1 0 = rw k at s.numbered in
       (omega (arith, c), omega (arith, n))
 
-  pub values_size : (kind ≡ 1 → ⊥) → (kind ≡ 2 → ⊥) → (kind ≡ 3 → ⊥) → (kind ≡ 4 → ⊥) → (3 ≤ length counts) × (6 ≤ length numbers)
+  pub values_size : kind ≡ 5 → (3 ≤ length counts) × (6 ≤ length numbers)
   unfolding many_counts many_numbers
-  values_size i j l m =
-      let k : kind ≡ 5 = only_five s.low s.high i j l m in
+  values_size k =
       let c : length counts ≡ 3 = rw k at s.counted in
       let n : length numbers ≡ 6 + get_or counts 0 0 * get_or counts 1 0 * get_or counts 2 0 = rw k at s.numbered in
       (omega (arith, c), omega (arith, n))

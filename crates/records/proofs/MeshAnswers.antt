@@ -10,31 +10,31 @@ use lib.Seq.{length-take-le}
 use Rattle.vectors.specs.Numbers.{zeroᶠ}
 use Rattle.geometry.specs.Segment.{ray_admitted}
 use Rattle.geometry.specs.declared.ray.Ray.{Ray}
-use Rattle.casts.specs.Answer.{invalid_input}
+use Rattle.casts.specs.Answer.{invalid_input, number_of}
 use Rattle.nearest_hit.specs.Nearest.{Indexed, stopped}
 use Rattle.tree.specs.Mesh.{Mesh, thirds}
 use Rattle.tree_build.specs.Build.{says, Outcome, build_of}
 use Rattle.tree.specs.Layout.{Areas, areas, tree_in}
-use Rattle.tree_build.specs.declared.build.Built.{Built}
-use Rattle.tree_build.specs.declared.build.Built.TheVariants.{Nodes, Refused}
+use Rattle.std.specs.Prelude.{Result, Ok, Err}
+use Rattle.casts.specs.declared.answer.Refusal.{Refusal}
 use Rattle.mesh.specs.MeshCast.{ray_mesh}
 use Rattle.mesh.specs.Through.{through_built, through_tree}
 use Rattle.records.specs.MeshAnswer.{mesh_answer}
-use Rattle.records.specs.Areas.{TreeRoom, TreeLent}
+use Rattle.records.specs.Areas.{TreeRoom}
 
 -- ---- after the build
 
-module _ (ray : Ray) (m : Mesh) (list stack : ℕ) (built : Built) (after : Areas) (outcome : Outcome)
+module _ (ray : Ray) (m : Mesh) (list stack : ℕ) (built : Result ℕ Refusal) (after : Areas) (outcome : Outcome)
     (is : ◌≡◌ {A = Outcome} record { answer = says built; after = after } outcome) where
-  pub through_nodes : (count kept : ℕ) (a : Indexed) → built ≡ Nodes count → kept ≡ list → a ≡ ray_mesh ray m m.vertices
+  pub through_nodes : (count kept : ℕ) (a : Indexed) → built ≡ Ok count → kept ≡ list → a ≡ ray_mesh ray m m.vertices
       (tree_in count after) kept stack
       → a ≡ through_tree ray m list stack outcome
   unfolding through_built
   through_nodes count kept a n k e = rw (sym is, n, sym k) e
 
-  pub through_refused : (number : ℕ) → built ≡ Refused number → stopped number ≡ through_tree ray m list stack outcome
+  pub through_refused : (refusal : Refusal) → built ≡ Err refusal → stopped (number_of refusal) ≡ through_tree ray m list stack outcome
   unfolding through_built
-  through_refused number n = rw (sym is, n)
+  through_refused refusal n = rw (sym is, n)
 
 -- ---- in fresh areas
 
@@ -56,15 +56,16 @@ fresh_answer ray m a admitted room n t w o e =
 
 -- ---- parts of the areas
 
-pub cut_room : (count : ℕ) {node_boxes triangle_boxes : List Float} {node_words order list stack : List ℕ}
-    → count ≤ 677 → TreeLent node_boxes triangle_boxes node_words order list stack
+pub cut_room : (count : ℕ) (node_boxes triangle_boxes : List Float) (node_words order list stack : List ℕ) → count ≤ 677
+    → length node_boxes ≡ 8124 → length triangle_boxes ≡ 4062 → length node_words ≡ 4062 → length order ≡ 677 → length list ≡ 677
+    → length stack ≡ 1355
     → TreeRoom count (take (12 * count) node_boxes) (take (6 * count) triangle_boxes)
     (take (6 * count) node_words) (take count order) (take count list) (take (2 * count + 1) stack)
-cut_room count {node_boxes} {triangle_boxes} {node_words} {order} {list} {stack} few lent = record {
-  boxed = length-take-le (12 * count) node_boxes (omega (arith, lent.boxed));
-  bounded = length-take-le (6 * count) triangle_boxes (omega (arith, lent.bounded));
-  worded = length-take-le (6 * count) node_words (omega (arith, lent.worded));
-  ordered = length-take-le count order (omega (arith, lent.ordered));
-  listed = length-take-le count list (omega (arith, lent.listed));
-  stacked = length-take-le (2 * count + 1) stack (omega (arith, lent.stacked));
+cut_room count node_boxes triangle_boxes node_words order list stack few n t w o l s = record {
+  boxed = length-take-le (12 * count) node_boxes (omega (arith, n));
+  bounded = length-take-le (6 * count) triangle_boxes (omega (arith, t));
+  worded = length-take-le (6 * count) node_words (omega (arith, w));
+  ordered = length-take-le count order (omega (arith, o));
+  listed = length-take-le count list (omega (arith, l));
+  stacked = length-take-le (2 * count + 1) stack (omega (arith, s));
 }

@@ -19,6 +19,7 @@ use Rattle.float_forms.specs.Bytes.{numbers_of, words_of}
 use Rattle.float_forms.proofs.RunLaws.{numbers_count, words_count}
 use Rattle.record_bytes.specs.declared.shape.Plan.{Plan}
 use Rattle.record_bytes.specs.Records.{many_counts, many_indices, kind_of, counts_of, said_of}
+use Rattle.record_bytes.specs.Kinds.{byte_of}
 use Rattle.record_bytes.specs.Plans.{Known}
 use Rattle.record_bytes.proofs.Lengths.{Measured, read_measured}
 use Rattle.record_bytes.proofs.Parts.{formed}
@@ -115,7 +116,7 @@ module _ (form : Form) (l : List ℕ) (plan : Plan) (k : Known form l plan) wher
   measured = read_measured form form l refl
 
   -- as many counts and floats as the kind says
-  said_sized : Sized plan.kind (said_of form l).counts (said_of form l).numbers
+  said_sized : Sized (byte_of plan.kind) (said_of form l).counts (said_of form l).numbers
   unfolding said_of
   said_sized =
       let kinded = (formed form l (subst T (sym k.well_formed) tt)).kinded in
@@ -128,11 +129,12 @@ module _ (form : Form) (l : List ℕ) (plan : Plan) (k : Known form l plan) wher
       }
 
   pub read_sized : {counts : List ℕ} {numbers : List Float} → counts ≡ (said_of form l).counts → numbers ≡ (said_of form l).numbers
-      → Sized plan.kind counts numbers
+      → Sized (byte_of plan.kind) counts numbers
   read_sized c n = rw (c, n) said_sized
 
   pub read_text : {ray : Ray} {counts indices : List ℕ} {numbers : List Float} → ray ≡ ray_by (numbers_of form (rays_of form) (drop 6 l))
       → counts ≡ (said_of form l).counts → numbers ≡ (said_of form l).numbers → indices ≡ (said_of form l).indices
-      → shape_text ray (shape_from plan.kind counts numbers indices) ≡ shape_text (ray_by (said_of form l).ray) (shape_by (said_of form l))
+      → shape_text ray (shape_from (byte_of plan.kind) counts numbers indices)
+      ≡ shape_text (ray_by (said_of form l).ray) (shape_by (said_of form l))
   unfolding said_of
   read_text r c n i = rw (r, c, n, i, plan_sizes.kind_is)

@@ -18,12 +18,3 @@ pub record TreeRoom (n : ℕ) (node_boxes triangle_boxes : List Float) (node_wor
   pub ordered : length order ≡ n
   pub listed : length list ≡ n
   pub stacked : length stack ≡ 2 * n + 1
-
--- for the tree of any well-formed record, which has 677 triangles at most: (8,192 - 58 - 8) / 12 in version 1, and 676 in versions 2 and 3
-pub record TreeLent (node_boxes triangle_boxes : List Float) (node_words order list stack : List ℕ) : Type 0 where
-  pub boxed : 8124 ≤ length node_boxes
-  pub bounded : 4062 ≤ length triangle_boxes
-  pub worded : 4062 ≤ length node_words
-  pub ordered : 677 ≤ length order
-  pub listed : 677 ≤ length list
-  pub stacked : 1355 ≤ length stack

@@ -2,6 +2,8 @@
 
 #![tactic(auto)]
 
+// The areas in which a record is answered.
+pub mod areas;
 // A ray and a shape from a record's numbers, and the cast at the shape.
 mod shapes;
 // The answer to a mesh.

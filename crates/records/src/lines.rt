@@ -2,18 +2,21 @@ ghost use Rattle.std.specs.Prelude.{◌≡◌, not, ◌+◌, ◌*◌, ◌≤◌,
 ghost use Rattle.float_forms.specs.Forms.{size_of, rays_of};
 ghost use Rattle.float_forms.specs.Bytes.{numbers_of};
 ghost use Rattle.record_bytes.specs.Records.{said_of, is_record};
+ghost use Rattle.record_bytes.specs.Kinds.{byte_of};
 ghost use Rattle.record_bytes.specs.Plans.{Known};
 ghost use Rattle.record_text.specs.Text.{Put};
-ghost use Rattle.records.specs.Areas.{Sized, TreeLent};
+ghost use Rattle.records.specs.Areas.{Sized};
 ghost use Rattle.records.specs.Lines.{shape_text, record_text, line_of, bad_line};
 ghost use Rattle.records.specs.Shapes.{ray_by, shape_from, shape_by};
 
+use crate::areas::{TreeAreas, WorkAreas};
 use crate::{meshes, shapes};
 use float_forms::forms::Form;
-use float_forms::{forms, runs};
+use float_forms::runs;
 use geometry::ray::Ray;
+use record_bytes::kind::Kind;
 use record_bytes::shape;
-use record_bytes::shape::{Plan, Planned};
+use record_bytes::shape::Plan;
 use record_text::{answers, text};
 
 // A line has at most 114 bytes: a number, a space, `hit` with four floats of 17 bytes, a triangle's index after a space, and its end; 20
@@ -30,39 +33,27 @@ pub struct Printed {
 fn put_shape(
     out: &mut [u8],
     at: usize,
-    kind: u8,
+    kind: Kind,
     ray: Ray,
     counts: &[u32],
     numbers: &[f64],
     indices: &[u32],
-    node_boxes: &mut [f64],
-    triangle_boxes: &mut [f64],
-    node_words: &mut [u32],
-    order: &mut [u32],
-    list: &mut [u32],
-    stack: &mut [u32],
+    areas: &mut TreeAreas,
 ) -> usize
-    requires { ((Sized kind counts.now numbers.now × (length indices.now ≤ 2031)) × (at + 92 ≤ length out.old))
-        × (TreeLent node_boxes.old triangle_boxes.old node_words.old order.old list.old stack.old) }
+    requires { (Sized (byte_of kind) counts.now numbers.now × (length indices.now ≤ 2031)) × (at + 92 ≤ length out.old) }
     ensures { Put out.old at
-        (shape_text ray (shape_from kind counts.now numbers.now indices.now)) out.new result }
+        (shape_text ray (shape_from (byte_of kind) counts.now numbers.now indices.now)) out.new result }
 {
-    if kind != 3 {
-        let cast = shapes::shape_answer(kind, ray, counts, numbers);
-        return answers::put_answer(out, at, cast);
+    match kind {
+        Kind::Mesh => {
+            let nearest = meshes::mesh_answer(ray, numbers, indices, areas);
+            answers::put_indexed(out, at, nearest)
+        }
+        _ => {
+            let cast = shapes::shape_answer(kind, ray, counts, numbers);
+            answers::put_answer(out, at, cast)
+        }
     }
-    let nearest = meshes::mesh_answer(
-        ray,
-        numbers,
-        indices,
-        node_boxes,
-        triangle_boxes,
-        node_words,
-        order,
-        list,
-        stack,
-    );
-    answers::put_indexed(out, at, nearest)
 }
 
 // The ray at the front of a record. Version 1 has no near: it stays 0.
@@ -71,7 +62,7 @@ fn read_ray(form: Form, source: &[u8]) -> Ray
     ensures { result ≡ ray_by (numbers_of form (rays_of form) (drop 6 source.now)) }
 {
     let mut numbers = [0.0; 8];
-    runs::read_floats(form, source, 6, forms::ray_count(form), &mut numbers);
+    runs::read_floats(form, source, 6, form.ray_count(), &mut numbers);
     shapes::ray_by(&numbers)
 }
 
@@ -82,17 +73,9 @@ fn put_planned(
     form: Form,
     source: &[u8],
     plan: Plan,
-    work: &mut [f64],
-    triangles: &mut [u32],
-    node_boxes: &mut [f64],
-    triangle_boxes: &mut [f64],
-    node_words: &mut [u32],
-    order: &mut [u32],
-    list: &mut [u32],
-    stack: &mut [u32],
+    areas: &mut WorkAreas,
 ) -> usize
-    requires { (Known form source.now plan) × (((at + 92 ≤ length out.old) × ((1024 ≤ length work.old)
-        × (2031 ≤ length triangles.old))) × (TreeLent node_boxes.old triangle_boxes.old node_words.old order.old list.old stack.old)) }
+    requires { Known form source.now plan × (at + 92 ≤ length out.old) }
     ensures { Put out.old at
         (shape_text (ray_by (said_of form source.now).ray) (shape_by (said_of form source.now))) out.new result }
 {
@@ -104,85 +87,45 @@ fn put_planned(
     let behind = place + shape::run_length(form, floats);
     let mut counts = [0u32; 3];
     runs::read_words(source, first, many, &mut counts);
-    runs::read_floats(form, source, place, floats, work);
-    runs::read_words(source, behind, words, triangles);
+    runs::read_floats(form, source, place, floats, &mut areas.numbers);
+    runs::read_words(source, behind, words, &mut areas.triangles);
     put_shape(
         out,
         at,
         plan.kind,
         read_ray(form, source),
         &counts[..many],
-        &work[..floats],
-        &triangles[..words],
-        node_boxes,
-        triangle_boxes,
-        node_words,
-        order,
-        list,
-        stack,
+        &areas.numbers[..floats],
+        &areas.triangles[..words],
+        &mut areas.tree,
     )
 }
 
 // The answer to any record, of whichever version.
-fn put_record(
-    out: &mut [u8],
-    at: usize,
-    source: &[u8],
-    work: &mut [f64],
-    triangles: &mut [u32],
-    node_boxes: &mut [f64],
-    triangle_boxes: &mut [f64],
-    node_words: &mut [u32],
-    order: &mut [u32],
-    list: &mut [u32],
-    stack: &mut [u32],
-) -> Printed
-    requires { ((at + 92 ≤ length out.old) × ((1024 ≤ length work.old) × (2031 ≤ length triangles.old)))
-        × (TreeLent node_boxes.old triangle_boxes.old node_words.old order.old list.old stack.old) }
+fn put_record(out: &mut [u8], at: usize, source: &[u8], areas: &mut WorkAreas) -> Printed
+    requires { at + 92 ≤ length out.old }
     ensures put { Put out.old at (record_text source.now) out.new result.end }
     ensures malformed_value { result.malformed ≡ not (is_record source.now) }
 {
     let form = shape::form_at(source);
-    let planned = shape::plan_of(form, source);
-    let Planned::Is(plan) = planned else {
+    let Some(plan) = shape::plan_of(form, source) else {
         return Printed {
             end: text::put_text(out, at, b"bad"),
             malformed: true,
         };
     };
-    let end = put_planned(
-        out,
-        at,
-        form,
-        source,
-        plan,
-        work,
-        triangles,
-        node_boxes,
-        triangle_boxes,
-        node_words,
-        order,
-        list,
-        stack,
-    );
+    let end = put_planned(out, at, form, source, plan, areas);
     Printed {
-        end: end,
+        end,
         malformed: false,
     }
 }
 
-// The line of a record, in the output area from `filled` on. All areas between are work areas, which may hold anything afterwards.
+// The line of a record, in the output area from `filled` on.
 pub fn line(
     number: u64,
     source: &[u8],
-    work: &mut [f64; 1024],
-    triangles: &mut [u32; 2031],
-    node_boxes: &mut [f64; 8124],
-    triangle_boxes: &mut [f64; 4062],
-    node_words: &mut [u32; 4062],
-    order: &mut [u32; 677],
-    list: &mut [u32; 677],
-    stack: &mut [u32; 1355],
+    areas: &mut WorkAreas,
     output: &mut [u8],
     filled: usize,
 ) -> Printed
@@ -191,19 +134,7 @@ pub fn line(
     ensures malformed_value { result.malformed ≡ not (is_record source.now) }
 {
     let start = answers::put_number(output, filled, number);
-    let printed = put_record(
-        output,
-        start,
-        source,
-        work,
-        triangles,
-        node_boxes,
-        triangle_boxes,
-        node_words,
-        order,
-        list,
-        stack,
-    );
+    let printed = put_record(output, start, source, areas);
     Printed {
         end: text::put_byte(output, printed.end, b'\n'),
         malformed: printed.malformed,

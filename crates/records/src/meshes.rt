@@ -5,15 +5,15 @@ ghost use Rattle.tree.specs.Layout.{areas};
 ghost use Rattle.tree_build.specs.Build.{build_of};
 ghost use Rattle.mesh.specs.Through.{through_tree};
 ghost use Rattle.records.specs.MeshAnswer.{mesh_answer};
-ghost use Rattle.records.specs.Areas.{TreeRoom, TreeLent};
+ghost use Rattle.records.specs.Areas.{TreeRoom};
 
-use casts::answer;
+use crate::areas::TreeAreas;
+use casts::answer::Refusal;
 use geometry::ray::Ray;
 use lists::fill;
 use mesh::cast;
 use nearest_hit::nearest::IndexedCast;
 use tree_build::build;
-use tree_build::build::Built;
 
 // All areas but the vertices and triangles are work areas: they may hold anything afterwards.
 
@@ -34,7 +34,7 @@ fn cast_built(
         (areas node_boxes.old triangle_boxes.old node_words.old order.old)
         (length list.old)) }
 {
-    let built = build::build(
+    let nodes = build::build(
         vertices,
         triangles,
         node_boxes,
@@ -42,27 +42,20 @@ fn cast_built(
         node_words,
         order,
         list,
-    );
-    match built {
-        Built::Nodes(count) => {
-            return cast::ray_mesh(
-                ray,
-                vertices,
-                triangles,
-                vertices,
-                count,
-                node_boxes,
-                triangle_boxes,
-                node_words,
-                order,
-                list,
-                stack,
-            );
-        }
-        Built::Refused(number) => {
-            return IndexedCast::Refused(number);
-        }
-    }
+    )?;
+    cast::ray_mesh(
+        ray,
+        vertices,
+        triangles,
+        vertices,
+        nodes,
+        node_boxes,
+        triangle_boxes,
+        node_words,
+        order,
+        list,
+        stack,
+    )
 }
 
 // Check 1, then the tree in areas filled with zeros.
@@ -82,7 +75,7 @@ fn cast_fresh(
     ensures { says_indexed result ≡ mesh_answer ray (mesh vertices.now triangles.now) }
 {
     if !ray.validate() {
-        return IndexedCast::Refused(answer::INVALID_INPUT);
+        return Err(Refusal::InvalidInput);
     }
     fill::zero_numbers(node_boxes);
     fill::zero_numbers(triangle_boxes);
@@ -101,20 +94,19 @@ fn cast_fresh(
     )
 }
 
-// The cast at a shape of kind 3; the tree is built in parts of the areas.
-pub fn mesh_answer(
+// The tree is built in parts of the areas.
+fn cast_cut(
     ray: Ray,
     vertices: &[f64],
     triangles: &[u32],
-    node_boxes: &mut [f64],
-    triangle_boxes: &mut [f64],
-    node_words: &mut [u32],
-    order: &mut [u32],
-    list: &mut [u32],
-    stack: &mut [u32],
+    node_boxes: &mut [f64; 8124],
+    triangle_boxes: &mut [f64; 4062],
+    node_words: &mut [u32; 4062],
+    order: &mut [u32; 677],
+    list: &mut [u32; 677],
+    stack: &mut [u32; 1355],
 ) -> IndexedCast
-    requires { (length triangles.now ≤ 2031) × TreeLent node_boxes.old triangle_boxes.old node_words.old order.old
-        list.old stack.old }
+    requires { length triangles.now ≤ 2031 }
     ensures { says_indexed result ≡ mesh_answer ray (mesh vertices.now triangles.now) }
 {
     let count = triangles.len() / 3;
@@ -131,5 +123,36 @@ pub fn mesh_answer(
         &mut order[..count],
         &mut list[..count],
         &mut stack[..nodes],
+    )
+}
+
+// The cast at a mesh.
+pub fn mesh_answer(
+    ray: Ray,
+    vertices: &[f64],
+    triangles: &[u32],
+    areas: &mut TreeAreas,
+) -> IndexedCast
+    requires { length triangles.now ≤ 2031 }
+    ensures { says_indexed result ≡ mesh_answer ray (mesh vertices.now triangles.now) }
+{
+    let TreeAreas {
+        node_boxes,
+        triangle_boxes,
+        node_words,
+        order,
+        list,
+        stack,
+    } = areas;
+    cast_cut(
+        ray,
+        vertices,
+        triangles,
+        node_boxes,
+        triangle_boxes,
+        node_words,
+        order,
+        list,
+        stack,
     )
 }

@@ -2,6 +2,7 @@ ghost use Rattle.std.specs.Prelude.{◌≡◌, [], ◌≤◌, length, drop};
 ghost use Rattle.casts.specs.Answer.{says};
 ghost use Rattle.height_field.specs.Cast.{ray_height_field};
 ghost use Rattle.level_set.specs.Walk.{ray_level_set};
+ghost use Rattle.record_bytes.specs.Kinds.{byte_of};
 ghost use Rattle.record_text.specs.AnswerText.{answer_text};
 ghost use Rattle.records.specs.Areas.{Sized};
 ghost use Rattle.records.specs.Lines.{shape_text};
@@ -15,6 +16,7 @@ use geometry::ray::Ray;
 use height_field::cast;
 use height_field::field::Field;
 use level_set::walk;
+use record_bytes::kind::Kind;
 use tree::layout;
 use triangle_cast::triangle;
 use vectors::vec3::Vec3;
@@ -32,7 +34,8 @@ pub fn ray_by(numbers: &[f64]) -> Ray
     }
 }
 
-// The shape of kind 1.
+// The plane.
+#[tactic(auto, unfolding(crate::specs::Shapes::plane_by))]
 fn plane_by(numbers: &[f64]) -> Plane
     requires { 4 ≤ length numbers.now }
     ensures { result ≡ plane_by numbers.now }
@@ -43,7 +46,8 @@ fn plane_by(numbers: &[f64]) -> Plane
     }
 }
 
-// The shape of kind 2.
+// The triangle.
+#[tactic(auto, unfolding(crate::specs::Shapes::corners_by))]
 fn corners_by(numbers: &[f64]) -> [Vec3; 3]
     requires { 9 ≤ length numbers.now }
     ensures { result ≡ corners_by numbers.now }
@@ -55,7 +59,8 @@ fn corners_by(numbers: &[f64]) -> [Vec3; 3]
     ]
 }
 
-// The shape of kind 4, without its heights.
+// The height grid, without its heights.
+#[tactic(auto, unfolding(crate::specs::Shapes::field_by))]
 fn field_by(counts: &[u32], numbers: &[f64]) -> Field
     requires { (2 ≤ length counts.now) × (2 ≤ length numbers.now) }
     ensures { result ≡ field_by counts.now numbers.now }
@@ -68,7 +73,8 @@ fn field_by(counts: &[u32], numbers: &[f64]) -> Field
     }
 }
 
-// The shape of kind 5, without its values.
+// The distance grid, without its values.
+#[tactic(auto, unfolding(crate::specs::Shapes::grid_by))]
 fn grid_by(counts: &[u32], numbers: &[f64]) -> Grid
     requires { (3 ≤ length counts.now) × (6 ≤ length numbers.now) }
     ensures { result ≡ grid_by counts.now numbers.now }
@@ -84,7 +90,7 @@ fn grid_by(counts: &[u32], numbers: &[f64]) -> Grid
     }
 }
 
-// The cast at a shape of kind 4; its heights stand behind its two spacings.
+// The cast at a height grid; its heights stand behind its two spacings.
 fn heights_answer(ray: Ray, counts: &[u32], numbers: &[f64]) -> Cast
     requires { (2 ≤ length counts.now) × (2 ≤ length numbers.now) }
     ensures { says result ≡ ray_height_field ray (field_by counts.now numbers.now) (drop 2 numbers.now) }
@@ -93,7 +99,7 @@ fn heights_answer(ray: Ray, counts: &[u32], numbers: &[f64]) -> Cast
     cast::ray_height_field(ray, field, &numbers[2..])
 }
 
-// The cast at a shape of kind 5; its values stand behind its origin and its spacing.
+// The cast at a distance grid; its values stand behind its origin and its spacing.
 fn values_answer(ray: Ray, counts: &[u32], numbers: &[f64]) -> Cast
     requires { (3 ≤ length counts.now) × (6 ≤ length numbers.now) }
     ensures { says result ≡ ray_level_set ray (grid_by counts.now numbers.now) (drop 6 numbers.now) }
@@ -102,19 +108,15 @@ fn values_answer(ray: Ray, counts: &[u32], numbers: &[f64]) -> Cast
     walk::ray_level_set(ray, grid, &numbers[6..])
 }
 
-// The cast at a shape of another kind than 3: one call for each kind.
-pub fn shape_answer(kind: u8, ray: Ray, counts: &[u32], numbers: &[f64]) -> Cast
-    requires { Sized kind counts.now numbers.now × (kind ≡ 3 → ⊥) }
-    ensures { answer_text (says result) ≡ shape_text ray (shape_from kind counts.now numbers.now []) }
+// The cast at a shape that is no mesh.
+pub fn shape_answer(kind: Kind, ray: Ray, counts: &[u32], numbers: &[f64]) -> Cast
+    requires { Sized (byte_of kind) counts.now numbers.now × (byte_of kind ≡ 3 → ⊥) }
+    ensures { answer_text (says result) ≡ shape_text ray (shape_from (byte_of kind) counts.now numbers.now []) }
 {
-    if kind == 1 {
-        return plane::ray_plane(plane_by(numbers), ray);
+    match kind {
+        Kind::Plane => plane::ray_plane(plane_by(numbers), ray),
+        Kind::Triangle => triangle::ray_triangle(ray, corners_by(numbers)),
+        Kind::HeightGrid => heights_answer(ray, counts, numbers),
+        _ => values_answer(ray, counts, numbers),
     }
-    if kind == 2 {
-        return triangle::ray_triangle(ray, corners_by(numbers));
-    }
-    if kind == 4 {
-        return heights_answer(ray, counts, numbers);
-    }
-    values_answer(ray, counts, numbers)
 }

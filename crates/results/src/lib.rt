@@ -16,14 +16,11 @@ ghost use Rattle.tree_query.specs.Query.{says_listed};
 ghost use Rattle.results.specs.Results.{ray_from, short_number, answered};
 ghost use Rattle.results.specs.Results.{returned_indexed, returned_nodes, returned_found, returned_verdict};
 
-use casts::answer;
-use casts::answer::Cast;
+use casts::answer::{Cast, Refusal};
 use geometry::ray::Ray;
 use nearest_hit::nearest::IndexedCast;
 use tree::mesh as lengths;
-use tree_build::build::Built;
 use tree_check::check::Verdict;
-use tree_query::query::Listed;
 use vectors::vec3::Vec3;
 
 // What a call answers where it does not refuse. Refusals, document 02's among them, stay below 256.
@@ -63,7 +60,7 @@ pub fn ray_from(
             y: direction_y,
             z: direction_z,
         },
-        max_distance: max_distance,
+        max_distance,
         near: near_distance,
     }
 }
@@ -80,29 +77,24 @@ pub fn put_hit(hit: &mut [f64], normal: Vec3, distance: f64)
 }
 
 // The number where the hit slice is too short: refusals 1 and 2 go before 3.
+#[tactic(auto, unfolding(crate::specs::Results::short_number))]
 fn short_number(answer: Cast) -> u32
     ensures { result ≡ short_number (says answer) }
 {
     match answer {
-        Cast::Hit {
-            normal: _,
-            distance: _,
-        } => {
-            return answer::NO_ROOM;
-        }
-        Cast::None => {
-            return answer::NO_ROOM;
-        }
-        Cast::Refused(number) => {
-            if number > answer::BAD_SHAPE {
-                return answer::NO_ROOM;
+        Ok(_) => Refusal::NoRoom.into(),
+        Err(refusal) => {
+            let number = u32::from(refusal);
+            if number > u32::from(Refusal::BadShape) {
+                return Refusal::NoRoom.into();
             }
-            return number;
+            number
         }
     }
 }
 
 // An answer as its number, a hit's values written; a result slice that is too short is refused.
+#[tactic(auto, unfolding(crate::specs::Results::answered, crate::specs::Results::returned))]
 pub fn put_answer(answer: Cast, hit: &mut [f64]) -> u32
     ensures { record { number = result; hit = hit.new } ≡ answered (says answer) hit.old }
 {
@@ -110,41 +102,30 @@ pub fn put_answer(answer: Cast, hit: &mut [f64]) -> u32
         return short_number(answer);
     }
     match answer {
-        Cast::Hit { normal, distance } => {
-            put_hit(hit, normal, distance);
-            return HIT;
+        Ok(Some(surface)) => {
+            put_hit(hit, surface.normal, surface.distance);
+            HIT
         }
-        Cast::None => {
-            return NONE;
-        }
-        Cast::Refused(number) => {
-            return number;
-        }
+        Ok(None) => NONE,
+        Err(refusal) => refusal.into(),
     }
 }
 
 // The same with the triangle's index.
+#[tactic(auto, unfolding(crate::specs::Results::returned_indexed))]
 pub fn put_indexed(answer: IndexedCast, hit: &mut [f64], index: &mut [u32]) -> u32
     requires { (4 ≤ length hit.old) × (1 ≤ length index.old) }
     ensures { record { number = result; hit = hit.new; index = index.new }
         ≡ returned_indexed (says_indexed answer) hit.old index.old }
 {
     match answer {
-        IndexedCast::Hit {
-            normal,
-            distance,
-            index: at,
-        } => {
-            put_hit(hit, normal, distance);
-            index[0] = at;
-            return HIT;
+        Ok(Some(surface)) => {
+            put_hit(hit, surface.normal, surface.distance);
+            index[0] = surface.index;
+            HIT
         }
-        IndexedCast::None => {
-            return NONE;
-        }
-        IndexedCast::Refused(number) => {
-            return number;
-        }
+        Ok(None) => NONE,
+        Err(refusal) => refusal.into(),
     }
 }
 
@@ -153,56 +134,35 @@ pub fn short_build(vertices: usize, triangles: usize) -> u32
     ensures { result ≡ cond (lengths_admitted vertices triangles) no_room bad_shape }
 {
     if !lengths::lengths_admitted(vertices, triangles) {
-        return answer::BAD_SHAPE;
+        return Refusal::BadShape.into();
     }
-    answer::NO_ROOM
+    Refusal::NoRoom.into()
 }
 
-// The build's answer as its number, the node count written.
-pub fn put_nodes(built: Built, nodes: &mut [usize]) -> u32
-    requires { 1 ≤ length nodes.old }
-    ensures { record { number = result; count = nodes.new } ≡ returned_nodes (saysBuilt built) nodes.old }
+// A count, of a tree's nodes, of a list's numbers or of bytes, as a number, the count written.
+#[tactic(auto, unfolding(crate::specs::Results::returned_nodes, crate::specs::Results::returned_found))]
+pub fn put_count(counted: Result<usize, Refusal>, place: &mut [usize]) -> u32
+    requires { 1 ≤ length place.old }
+    ensures nodes { record { number = result; count = place.new } ≡ returned_nodes (saysBuilt counted) place.old }
+    ensures found { record { number = result; count = place.new } ≡ returned_found (says_listed counted) place.old }
 {
-    match built {
-        Built::Nodes(count) => {
-            nodes[0] = count;
-            return DONE;
+    match counted {
+        Ok(count) => {
+            place[0] = count;
+            DONE
         }
-        Built::Refused(number) => {
-            return number;
-        }
-    }
-}
-
-// The query's answer as its number, the list's length written.
-pub fn put_found(listed: Listed, found: &mut [usize]) -> u32
-    requires { 1 ≤ length found.old }
-    ensures { record { number = result; count = found.new } ≡ returned_found (says_listed listed) found.old }
-{
-    match listed {
-        Listed::Count(count) => {
-            found[0] = count;
-            return DONE;
-        }
-        Listed::Refused(number) => {
-            return number;
-        }
+        Err(refusal) => refusal.into(),
     }
 }
 
 // The tree check's answer as its number.
+#[tactic(auto, unfolding(crate::specs::Results::returned_verdict))]
 pub fn verdict_number(verdict: Verdict) -> u32
     ensures { result ≡ returned_verdict (saysVerdict verdict) }
 {
     match verdict {
-        Verdict::Yes => {
-            return YES;
-        }
-        Verdict::No => {
-            return NO;
-        }
-        Verdict::Refused(number) => {
-            return number;
-        }
+        Ok(true) => YES,
+        Ok(false) => NO,
+        Err(refusal) => refusal.into(),
     }
 }

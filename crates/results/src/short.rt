@@ -3,7 +3,7 @@ ghost use Rattle.geometry.specs.Segment.{ray_admitted};
 ghost use Rattle.tree.specs.Mesh.{thirds, lengths_admitted};
 ghost use Rattle.results.specs.Results.{short_of};
 
-use casts::answer;
+use casts::answer::Refusal;
 use geometry::ray::Ray;
 use mesh::cast;
 
@@ -13,10 +13,10 @@ pub fn short_cast(ray: Ray, vertices: usize, triangles: usize, pose: usize, node
         && (lengths_admitted pose triangles && leb nodes (2 * thirds triangles))) }
 {
     if !ray.validate() {
-        return answer::INVALID_INPUT;
+        return Refusal::InvalidInput.into();
     }
     if !cast::shape_admitted(vertices, triangles, pose, nodes) {
-        return answer::BAD_SHAPE;
+        return Refusal::BadShape.into();
     }
-    answer::NO_ROOM
+    Refusal::NoRoom.into()
 }

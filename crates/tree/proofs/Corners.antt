@@ -15,9 +15,8 @@ use Rattle.vectors.specs.declared.vec3.Vec3.{Vec3}
 use Rattle.geometry.specs.declared.ray.Ray.{Ray}
 use Rattle.lists.proofs.JoinedTests.{and_first, and_second}
 use Rattle.casts.specs.Answer.{Answer, refused, out_of_bounds}
-use Rattle.casts.specs.Reach.{reach_of}
+use Rattle.casts.specs.Reach.{reach_of, At, Refused}
 use Rattle.triangle_cast.specs.Triangle.{triangle_normal, triangle_of, triangle_cast}
-use Rattle.casts.specs.declared.answer.Reach.TheVariants.{At, Refused}
 use Rattle.casts.proofs.AnswerLists.{OfHit, HitsAreNumbers}
 use Rattle.triangle_cast.proofs.ReachLaws.{told_by_distance}
 use Rattle.casts.proofs.HitLaws.{Measured, of_cond, of_refused}

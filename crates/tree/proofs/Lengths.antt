@@ -1,10 +1,9 @@
 -- One more area beside a tree's: all are long enough where the tree's are, and it is. Assumes nothing.
 use mathlib.Core.Path.{◌≡◌, refl, sym, ap, ◌∙◌}
-use mathlib.Core.Bool.{Bool, true, false, ◌&&◌, not}
+use mathlib.Core.Bool.{Bool, true, false, ◌&&◌}
 use mathlib.Core.List.{List, [], ◌∷◌, ◌++◌}
 use Prim.Native.Nat.{ℕ, ◌*◌}
 use lib.Dec.{leb}
-use borrow.Author.Tests.{not-true, not-false}
 use Rattle.tree.specs.Layout.{Lent, lent, all_long, tree_lengths}
 
 and_assoc : (a b c : Bool) → (a && (b && c)) ≡ ((a && b) && c)

@@ -43,13 +43,10 @@ pub fn put_triangle_boxes(vertices: &[f64], triangles: &[u32], area: &mut [f64])
     ensures { (result ≡ triangles_fit (mesh vertices.now triangles.now))
         × (result ≡ true → area.new ≡ boxes_written (mesh vertices.now triangles.now) area.old) }
 {
-    let count = triangles.len() / 3;
-    let mut i = 0;
-    while i < count {
+    for i in 0..triangles.len() / 3 {
         if !put_triangle_box(vertices, triangles, i, area) {
             return false;
         }
-        i += 1;
     }
     true
 }

@@ -1,6 +1,6 @@
 -- The public call from its parts: which lengths the tests leave, and the outcome at each return. Assumes nothing.
 use mathlib.Core.Path.{◌≡◌, refl, sym, ap, ◌∙◌, subst}
-use mathlib.Core.Bool.{Bool, true, false, ◌&&◌, cond}
+use mathlib.Core.Bool.{Bool, true, false, ◌&&◌, cond, false≢true}
 use mathlib.Core.List.{List, ◌++◌}
 use Prim.Native.Nat.{ℕ, ◌+◌, ◌*◌, ◌/◌, ◌%◌, ◌<◌, ◌≤◌}
 use native.Mathlib.Nat.{zero-add}
@@ -19,8 +19,10 @@ use Rattle.tree_build.specs.Ranges.{extents_finite, order_below, boxes_below}
 use Rattle.tree_build.specs.Build.{Answer, nodes, refused, says, Outcome, zeroed, room_for, tree_written, built_of, build_of}
 use Rattle.tree.specs.Layout.{Areas, areas}
 use Rattle.tree_build.specs.Node.{RoomAt, Grown}
-use Rattle.tree_build.specs.declared.build.Built.{Built}
-use Rattle.tree_build.specs.declared.build.Built.TheVariants.{Nodes, Refused}
+use Rattle.casts.specs.declared.answer.Refusal.{Refusal}
+use Rattle.std.specs.Prelude.{Result, Ok, Err}
+use Rattle.std.specs.Result.{is_err}
+use Rattle.casts.specs.Answer.{number_of}
 use Rattle.lists.proofs.Runs.{sets_front}
 use Rattle.lists.proofs.CountLaws.{length_range}
 use Rattle.tree_build.proofs.Shapes.{nodes_of_shape_of, three_words_a_node, six_numbers_a_node}
@@ -107,8 +109,8 @@ module _ (m : Mesh) (a : Areas) where
       (record { answer = refused overflow; after = zeroed a })))
 
 -- what the recursion wrote from the first node on
-module _ (m : Mesh) (a : Areas) (r : Built) (part part' : List ℕ) (triangleBoxes' nodeBoxes' : List Float) (nodeWords' : List ℕ) (n : ℕ)
-    (counted : n ≡ triangle_count m) (p : 0 < n) (work : ℕ)
+module _ (m : Mesh) (a : Areas) (r : Result ℕ Refusal) (part part' : List ℕ) (triangleBoxes' nodeBoxes' : List Float)
+    (nodeWords' : List ℕ) (n : ℕ) (counted : n ≡ triangle_count m) (p : 0 < n) (work : ℕ)
     (room : Room n (length a.node_boxes) (length a.triangle_boxes) (length a.node_words) (length a.order) work)
     (boxed : triangleBoxes' ≡ boxes_written m a.triangle_boxes) (first : part ≡ range 0 n) (kept : length part' ≡ length part)
     (grew : Grown triangleBoxes' (shape_of (length part)) part 0 0 r part' a.node_boxes nodeBoxes' a.node_words nodeWords')
@@ -129,7 +131,7 @@ module _ (m : Mesh) (a : Areas) (r : Built) (part part' : List ℕ) (triangleBox
     pub grown_said : (triangle_count m ≡ 0 → ⊥) → triangles_fit m ≡ true → says r ≡ (built_of m a).answer
     grown_said h f = as_defined.answer ∙ grown_answered m a h f
 
-    pub grown_written : (k : ℕ) → r ≡ Nodes k → areas nodeBoxes' triangleBoxes' nodeWords' (part' ++ drop n a.order) ≡ tree_written m a
+    pub grown_written : (k : ℕ) → r ≡ Ok k → areas nodeBoxes' triangleBoxes' nodeWords' (part' ++ drop n a.order) ≡ tree_written m a
     unfolding tree_written
     grown_written k went =
         let shape = shape_of (triangle_count m) in
@@ -205,18 +207,24 @@ module _ (m : Mesh) (a : Areas) (work : ℕ) where
   whole x after o p q = rw (p, q)
 
   module _ (admitted : lengths_admitted (length m.vertices) (length m.triangles) ≡ true)
-      (room : room_for (triangle_count m) a work ≡ true) (r : Built) (said : says r ≡ (built_of m a).answer) where
-    pub nodes_returned : (k : ℕ) (after : Areas) → r ≡ Nodes k → after ≡ tree_written m a → record { answer = says r; after = after } ≡
-        build_of m a work
-    nodes_returned k after e f = whole (says r) after (built_of m a) said (f ∙ sym (nodes_after k (sym said ∙ ap says e))) ∙ built admitted
-        room
+      (room : room_for (triangle_count m) a work ≡ true) (r : Result ℕ Refusal) (said : says r ≡ (built_of m a).answer) where
+    pub nodes_returned : (after : Areas) → is_err r ≡ false → ((k : ℕ) → r ≡ Ok k → after ≡ tree_written m a)
+        → record { answer = says r; after = after } ≡ build_of m a work
+    nodes_returned after e f = go r refl
+      where
+        go : (x : Result ℕ Refusal) → r ≡ x → record { answer = says r; after = after } ≡ build_of m a work
+        go (Ok k) is = whole (says r) after (built_of m a) said (f k is ∙ sym (nodes_after k (sym said ∙ ap says is))) ∙ built admitted room
+        go (Err refusal) is = absurd (false≢true (sym e ∙ ap is_err is))
 
-    pub refusal_returned : (k : ℕ) (after : Areas) → r ≡ Refused k → after ≡ zeroed a → record { answer = refused k; after = after } ≡
-        build_of m a work
-    refusal_returned k after e f =
-        whole (refused k) after (built_of m a) (sym (ap says e) ∙ said) (f ∙ sym (refused_after_lem k (sym said ∙ ap says e)))
-        ∙ built admitted
-        room
+    pub refusal_returned : (after : Areas) → is_err r ≡ true → after ≡ zeroed a
+        → record { answer = says r; after = after } ≡ build_of m a work
+    refusal_returned after e f = go r refl
+      where
+        go : (x : Result ℕ Refusal) → r ≡ x → record { answer = says r; after = after } ≡ build_of m a work
+        go (Ok k) is = absurd (false≢true (sym (ap is_err is) ∙ e))
+        go (Err refusal) is =
+            whole (says r) after (built_of m a) said (f ∙ sym (refused_after_lem (number_of refusal) (sym said ∙ ap says is)))
+            ∙ built admitted room
 
 pub zeroed_same : (a b : Areas) → length a.node_boxes ≡ length b.node_boxes → length a.triangle_boxes ≡ length b.triangle_boxes →
     length a.node_words ≡ length b.node_words → length a.order ≡ length b.order

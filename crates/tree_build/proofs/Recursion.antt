@@ -18,8 +18,10 @@ use Rattle.tree_ranges.specs.Extents.{hull_of, extent_of}
 use Rattle.tree_build.specs.Ranges.{left_range, right_range, extents_finite, order_below, boxes_below}
 use Rattle.tree_build.specs.Build.{nodes, refused, says}
 use Rattle.tree_build.specs.Node.{RoomAt, Arranged, Written, Grown}
-use Rattle.tree_build.specs.declared.build.Built.{Built}
-use Rattle.tree_build.specs.declared.build.Built.TheVariants.{Nodes, Refused}
+use Rattle.casts.specs.declared.answer.Refusal.{Refusal}
+use Rattle.casts.specs.declared.answer.Refusal.TheVariants.{Overflow}
+use Rattle.std.specs.Prelude.{Result, Ok, Err}
+use Rattle.casts.specs.Answer.{number_of}
 use Rattle.lists.proofs.Runs.{sets_append, sets_before}
 use Rattle.tree_ranges.specs.Plain.{plain_range}
 use Rattle.tree_build.proofs.Alikeness.{grown_alike, hull_of_halves}
@@ -49,23 +51,23 @@ was_grown false k j h = let z : ◌≡◌ {A = ℕ} 0 1 = cc in absurd (omega ar
 
 module _ (boxes : List Float) (ts : List ℕ) (start node : ℕ) (node_boxes : List Float) (node_words : List ℕ) where
   pub leaf_grown : (n : ℕ)
-      → Grown boxes (leaf n) ts start node (Nodes (node + 1)) ts node_boxes (sets node_boxes (6 * node) (box_numbers (hull_of boxes ts)))
+      → Grown boxes (leaf n) ts start node (Ok (node + 1)) ts node_boxes (sets node_boxes (6 * node) (box_numbers (hull_of boxes ts)))
       node_words (sets node_words (3 * node) (0 ∷ (start ∷ (n ∷ []))))
   unfolding extents_finite nodes_of order_below boxes_below words_of
   leaf_grown n = record { answer = refl; written = λ _. record { order = refl; boxed = refl; worded = refl } }
 
   module _ (l r : Shape) (ts' : List ℕ) (nodeBoxes' : List Float) (nodeWords' : List ℕ) where
-    pub extent_refused : finite_vec (extent_of boxes ts) ≡ false → Grown boxes (branch l r) ts start node (Refused overflow) ts' node_boxes
+    pub extent_refused : finite_vec (extent_of boxes ts) ≡ false → Grown boxes (branch l r) ts start node (Err Overflow) ts' node_boxes
         nodeBoxes' node_words nodeWords'
     unfolding extents_finite
     extent_refused h = record { answer = rw h; written = λ e. absurd (false≢true (rw h at e)) }
 
-    pub left_refused : (left : Built) (k j : ℕ) → says left ≡ cond (extents_finite boxes l (left_range boxes l ts)) (nodes k)
-        (refused overflow) → left ≡ Refused j
+    pub left_refused : (left : Result ℕ Refusal) (k : ℕ) (j : Refusal)
+        → says left ≡ cond (extents_finite boxes l (left_range boxes l ts)) (nodes k) (refused overflow) → left ≡ Err j
         → Grown boxes (branch l r) ts start node left ts' node_boxes nodeBoxes' node_words nodeWords'
     unfolding extents_finite
     left_refused left k j h e =
-        let told = was_refused (extents_finite boxes l (left_range boxes l ts)) k j (sym (ap says e) ∙ h) in
+        let told = was_refused (extents_finite boxes l (left_range boxes l ts)) k (number_of j) (sym (ap says e) ∙ h) in
         let none = middle_false (finite_vec (extent_of boxes ts)) (extents_finite boxes l (left_range boxes l ts))
         (extents_finite boxes r (right_range boxes l ts)) told.0 in
         record {
@@ -75,8 +77,8 @@ module _ (boxes : List Float) (ts : List ℕ) (start node : ℕ) (node_boxes : L
         }
 
   -- both halves, the left one's nodes directly behind the branch and the right one's behind those
-  module _ (l r : Shape) (finite : finite_vec (extent_of boxes ts) ≡ true) (front back : List ℕ) (left right : Built) (next : ℕ)
-      (went : left ≡ Nodes next) (nodeBoxes₀ nodeBoxes₁ nodeBoxes₂ nodeBoxes₃ : List Float) (nodeWords₁ nodeWords₂ : List ℕ)
+  module _ (l r : Shape) (finite : finite_vec (extent_of boxes ts) ≡ true) (front back : List ℕ) (left right : Result ℕ Refusal) (next : ℕ)
+      (went : left ≡ Ok next) (nodeBoxes₀ nodeBoxes₁ nodeBoxes₂ nodeBoxes₃ : List Float) (nodeWords₁ nodeWords₂ : List ℕ)
       (on-left : Grown boxes l (left_range boxes l ts) start (node + 1) left front nodeBoxes₀ nodeBoxes₁ node_words nodeWords₁)
       (on-right : Grown boxes r (right_range boxes l ts) (start + size_of l) next right back nodeBoxes₁ nodeBoxes₂
       (sets nodeWords₁ (3 * node) (1 ∷ ((node + 1) ∷ (next ∷ [])))) nodeWords₂)
@@ -163,8 +165,8 @@ module _ (n start node boxesLong wordsLong workLong : ℕ) (many : 4 < n) (room 
       }
 
 -- the index behind the left half
-pub next_is : (boxes : List Float) (n n' : ℕ) (ts : List ℕ) (start node : ℕ) (left : Built) (next : ℕ) (front : List ℕ)
-    (node_boxes nodeBoxes₁ : List Float) (node_words nodeWords₁ : List ℕ) → n' ≡ n / 2 → left ≡ Nodes next
+pub next_is : (boxes : List Float) (n n' : ℕ) (ts : List ℕ) (start node : ℕ) (left : Result ℕ Refusal) (next : ℕ) (front : List ℕ)
+    (node_boxes nodeBoxes₁ : List Float) (node_words nodeWords₁ : List ℕ) → n' ≡ n / 2 → left ≡ Ok next
     → Grown boxes (shape_of n') ts start (node + 1) left front node_boxes nodeBoxes₁ node_words nodeWords₁
     → next ≡ node + 1 + nodes_of (shape_of (n / 2))
 next_is boxes n n' ts start node left next front node_boxes nodeBoxes₁ node_words nodeWords₁ e went g =
@@ -180,11 +182,11 @@ written_now unseen n x y z h e =
 module _ (boxes : List Float) (ts : List ℕ) (start node : ℕ) (node_boxes nodeBoxes' : List Float) (node_words nodeWords' : List ℕ) where
   pub few_returned : length ts ≤ 4 → nodeBoxes' ≡ sets node_boxes (6 * node) (box_numbers (hull_of boxes ts)) → nodeWords' ≡ sets node_words
       (3 * node) (0 ∷ (start ∷ (length ts ∷ [])))
-      → Grown boxes (shape_of (length ts)) ts start node (Nodes (node + 1)) ts node_boxes nodeBoxes' node_words nodeWords'
+      → Grown boxes (shape_of (length ts)) ts start node (Ok (node + 1)) ts node_boxes nodeBoxes' node_words nodeWords'
   few_returned h p q = rw (few_are_a_leaf (length ts) h, p, q) (leaf_grown boxes ts start node node_boxes node_words (length ts))
 
   module _ (many : 4 < length ts) (ts' : List ℕ) where
-    pub extent_returned : false ≡ finite_vec (extent_of boxes ts) → Grown boxes (shape_of (length ts)) ts start node (Refused overflow) ts'
+    pub extent_returned : false ≡ finite_vec (extent_of boxes ts) → Grown boxes (shape_of (length ts)) ts start node (Err Overflow) ts'
         node_boxes nodeBoxes' node_words nodeWords'
     extent_returned h =
         rw (many_are_halved (length ts) many)
@@ -195,7 +197,7 @@ module _ (boxes : List Float) (ts : List ℕ) (start node : ℕ) (node_boxes nod
       pub left_long : length (take (length ts / 2) arranged) ≡ length ts / 2
       left_long = length-take-le (length ts / 2) arranged (omega arith)
 
-      module _ (left : Built) (front : List ℕ) (nodeBoxes₁ nodeBoxes₂ : List Float) (nodeWords₁ : List ℕ)
+      module _ (left : Result ℕ Refusal) (front : List ℕ) (nodeBoxes₁ nodeBoxes₂ : List Float) (nodeWords₁ : List ℕ)
           (on-left : Grown boxes (shape_of (length (take (length ts / 2) arranged))) (take (length ts / 2) arranged) start (node + 1) left
           front nodeBoxes₁ nodeBoxes₂ node_words nodeWords₁)
         where
@@ -207,7 +209,7 @@ module _ (boxes : List Float) (ts : List ℕ) (start node : ℕ) (node_boxes nod
               (subst (λ (k : ℕ). Grown boxes (shape_of k) (take (length ts / 2) arranged) start (node + 1) left front nodeBoxes₁ nodeBoxes₂
               node_words nodeWords₁) left_long on-left)
 
-          pub left_returned : (j : ℕ) → left ≡ Refused j → Grown boxes (shape_of (length ts)) ts start node left ts' node_boxes nodeBoxes'
+          pub left_returned : (j : Refusal) → left ≡ Err j → Grown boxes (shape_of (length ts)) ts start node left ts' node_boxes nodeBoxes'
               node_words nodeWords'
           left_returned j e =
               rw (many_are_halved (length ts) many)
@@ -215,8 +217,8 @@ module _ (boxes : List Float) (ts : List ℕ) (start node : ℕ) (node_boxes nod
               nodeBoxes' nodeWords' left
               (node + 1 + nodes_of (shape_of (length ts / 2))) j left_half.answer e)
 
-          module _ (right : Built) (next : ℕ) (part back : List ℕ) (same-part : part ≡ drop (length ts / 2) arranged)
-              (whole : ts' ≡ front ++ back) (finite : true ≡ finite_vec (extent_of boxes ts)) (went : left ≡ Nodes next)
+          module _ (right : Result ℕ Refusal) (next : ℕ) (part back : List ℕ) (same-part : part ≡ drop (length ts / 2) arranged)
+              (whole : ts' ≡ front ++ back) (finite : true ≡ finite_vec (extent_of boxes ts)) (went : left ≡ Ok next)
               (unseen : Bool) (plains : unseen ≡ true → plain_range boxes ts ≡ true)
               (roomy : 6 * (node + nodes_of (shape_of (length ts))) ≤ length node_boxes)
               (first : nodeBoxes₁ ≡ cond (unseen && ltb 4 (length ts)) node_boxes

@@ -1,15 +1,14 @@
 -- Document 01's build: the answer, and what the lent areas hold after it. Definitions only. Assumes nothing.
-use Rattle.std.specs.Prelude.{ℕ, ◌≡◌, Bool, false, cond, List, [], ◌∷◌, ◌++◌, eqb, length, replicate}
+use Rattle.std.specs.Prelude.{ℕ, ◌≡◌, Bool, false, cond, List, [], ◌∷◌, ◌++◌, Result, Ok, Err, eqb, length, replicate}
 use Rattle.vectors.specs.Numbers.{zeroᶠ}
 use Rattle.lists.specs.Lists.{range, over}
 use Rattle.lists.specs.Refusals.{Test, refusing, unless_refused, all_pass}
-use Rattle.casts.specs.Answer.{bad_shape, no_room, out_of_bounds, overflow}
+use Rattle.casts.specs.Answer.{bad_shape, no_room, out_of_bounds, overflow, number_of}
+use Rattle.casts.specs.declared.answer.Refusal.{Refusal}
 use Rattle.tree.specs.Layout.{Areas, lent, all_long, tree_lengths}
 use Rattle.tree.specs.Mesh.{Mesh, lengths_admitted, triangle_count, triangles_fit, boxes_written}
 use Rattle.tree_build.specs.Shape.{shape_of, nodes_of, words_of}
 use Rattle.tree_build.specs.Ranges.{extents_finite, order_below, boxes_below}
-use Rattle.tree_build.specs.declared.build.Built.{Built}
-use Rattle.tree_build.specs.declared.build.Built.TheVariants.{Nodes, Refused}
 
 -- "the build returns the node count", or a refusal's number
 pub data Answer : Type 0 where
@@ -17,9 +16,9 @@ pub data Answer : Type 0 where
   refused : ℕ → Answer
 
 -- what each case of the code's answer says
-abbrev pub says : Built → Answer
-says (Nodes count) = nodes count
-says (Refused number) = refused number
+abbrev pub says : Result ℕ Refusal → Answer
+says (Ok count) = nodes count
+says (Err refusal) = refused (number_of refusal)
 
 pub record Outcome : Type 0 where
   pub answer : Answer

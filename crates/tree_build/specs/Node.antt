@@ -1,12 +1,12 @@
 -- Inner contracts only: what one call of the recursion asks and gives. Definitions only. Assumes nothing.
-use Rattle.std.specs.Prelude.{ℕ, ◌+◌, ◌-◌, ◌*◌, ◌/◌, ◌<◌, ◌≤◌, ◌≡◌, true, cond, List, Float, length, take, drop}
+use Rattle.std.specs.Prelude.{ℕ, ◌+◌, ◌-◌, ◌*◌, ◌/◌, ◌<◌, ◌≤◌, ◌≡◌, true, cond, List, Result, Float, length, take, drop}
 use Rattle.std.proofs.lemmas.List.Edits.{sets}
 use Rattle.casts.specs.Answer.{overflow}
 use Rattle.tree_ranges.specs.Plain.{plain_range}
 use Rattle.tree_build.specs.Shape.{Shape, shape_of, nodes_of, words_of}
 use Rattle.tree_build.specs.Ranges.{left_range, right_range, extents_finite, order_below, boxes_below}
 use Rattle.tree_build.specs.Build.{nodes, refused, says}
-use Rattle.tree_build.specs.declared.build.Built.{Built}
+use Rattle.casts.specs.declared.answer.Refusal.{Refusal}
 
 -- n triangles from a place of the order on, as nodes from an index on: the lengths of node boxes, node words and work are enough, and each
 -- word is a u32
@@ -39,6 +39,7 @@ module _ (boxes : List Float) (shape : Shape) (ts : List ℕ) (start node : ℕ)
     pub worded : nodeWords' ≡ sets node_words (3 * node) (words_of node start shape)
 
   -- the next free index with these, or 6 with anything in the areas
-  pub record Grown (r : Built) (ts' : List ℕ) (node_boxes nodeBoxes' : List Float) (node_words nodeWords' : List ℕ) : Type 0 where
+  pub record Grown (r : Result ℕ Refusal) (ts' : List ℕ) (node_boxes nodeBoxes' : List Float)
+      (node_words nodeWords' : List ℕ) : Type 0 where
     pub answer : says r ≡ cond (extents_finite boxes shape ts) (nodes (node + nodes_of shape)) (refused overflow)
     pub written : extents_finite boxes shape ts ≡ true → Written ts' node_boxes nodeBoxes' node_words nodeWords'

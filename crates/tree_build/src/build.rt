@@ -1,20 +1,15 @@
-ghost use Rattle.std.specs.Prelude.{◌≡◌, true, false, ℕ, ◌≤◌, length};
+ghost use Rattle.std.specs.Prelude.{◌≡◌, true, false, ℕ, ◌≤◌, length, Ok};
 ghost use Rattle.tree.specs.Mesh.{thirds, lengths_admitted, mesh};
 ghost use Rattle.tree.specs.Layout.{areas};
 ghost use Rattle.tree_build.specs.Build.{says, zeroed, room_for, tree_written, built_of, outcome, Builds};
-ghost use Rattle.tree_build.specs.declared.build.Built.TheVariants.{Nodes};
 
 use crate::nodes;
-use casts::answer;
+use casts::answer::Refusal;
 use lists::fill;
 use tree::{layout, mesh, writing};
 
-// The node count, or a refusal with its number in document 01's table.
-#[derive(Clone, Copy)]
-pub enum Built {
-    Nodes(usize),
-    Refused(u32),
-}
+// The node count, or a refusal of document 01's table.
+pub type Built = Result<usize, Refusal>;
 
 // Whether the areas are long enough for a number of triangles.
 fn has_room(
@@ -73,16 +68,16 @@ fn grow(
         (length work.old) ≡ true) }
     ensures { (says result ≡ (built_of (mesh vertices.now triangles.now)
         (areas node_boxes.old triangle_boxes.old node_words.old order.old)).answer)
-        × ((k : ℕ) → result ≡ Nodes k → areas node_boxes.new triangle_boxes.new node_words.new
+        × ((k : ℕ) → result ≡ Ok k → areas node_boxes.new triangle_boxes.new node_words.new
         order.new ≡ tree_written (mesh vertices.now triangles.now)
         (areas node_boxes.old triangle_boxes.old node_words.old order.old)) }
 {
     let count = triangles.len() / 3;
     if count == 0 {
-        return Built::Refused(answer::OUT_OF_BOUNDS);
+        return Err(Refusal::OutOfBounds);
     }
     if !writing::put_triangle_boxes(vertices, triangles, triangle_boxes) {
-        return Built::Refused(answer::OUT_OF_BOUNDS);
+        return Err(Refusal::OutOfBounds);
     }
     fill::number(&mut order[..count]);
     let unseen = nodes::order_unseen(triangle_boxes, &order[..count]);
@@ -116,7 +111,7 @@ pub fn build(
         (areas node_boxes.new triangle_boxes.new node_words.new order.new)) }
 {
     if !mesh::lengths_admitted(vertices.len(), triangles.len()) {
-        return Built::Refused(answer::BAD_SHAPE);
+        return Err(Refusal::BadShape);
     }
     if !has_room(
         triangles.len() / 3,
@@ -126,7 +121,7 @@ pub fn build(
         order,
         work,
     ) {
-        return Built::Refused(answer::NO_ROOM);
+        return Err(Refusal::NoRoom);
     }
     let built = grow(
         vertices,
@@ -137,9 +132,8 @@ pub fn build(
         order,
         work,
     );
-    let Built::Refused(number) = built else {
-        return built;
-    };
-    zero_areas(node_boxes, triangle_boxes, node_words, order);
-    Built::Refused(number)
+    if built.is_err() {
+        zero_areas(node_boxes, triangle_boxes, node_words, order);
+    }
+    built
 }

@@ -1,5 +1,6 @@
 -- Laws of the tree check, beside the functions' own proofs. Assumes nothing.
 pub mod Answers
+pub mod EachOf
 pub mod Clauses
 pub mod Holds
 pub mod Passes

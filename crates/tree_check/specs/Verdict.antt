@@ -1,13 +1,12 @@
 -- The answer of the tree check: "A tree passes the check if the check, with a mark area long enough, says yes". Definitions only. Assumes
 -- nothing.
-use Rattle.std.specs.Prelude.{ℕ, ◌*◌, ◌≡◌, Bool, cond, List, [], ◌∷◌, ◌++◌, length}
-use Rattle.casts.specs.Answer.{bad_shape, no_room}
+use Rattle.std.specs.Prelude.{ℕ, ◌*◌, ◌≡◌, Bool, cond, List, [], ◌∷◌, ◌++◌, Result, Ok, Err, length}
+use Rattle.casts.specs.Answer.{bad_shape, no_room, number_of}
+use Rattle.casts.specs.declared.answer.Refusal.{Refusal}
 use Rattle.lists.specs.Refusals.{Test, refusing, unless_refused}
 use Rattle.tree.specs.Layout.{Tree, lent, all_long, tree_lengths}
 use Rattle.tree.specs.Mesh.{Mesh, thirds, lengths_admitted}
 use Rattle.tree_check.specs.Check.{tree_passes}
-use Rattle.tree_check.specs.declared.check.Verdict.{Verdict}
-use Rattle.tree_check.specs.declared.check.Verdict.TheVariants.{Yes, No, Refused}
 
 -- an answer in document 01's words
 pub data Ruling : Type 0 where
@@ -16,10 +15,9 @@ pub data Ruling : Type 0 where
   refused : ℕ → Ruling
 
 -- what each case of the code's answer says
-abbrev pub says : Verdict → Ruling
-says Yes = yes
-says No = no
-says (Refused number) = refused number
+abbrev pub says : Result Bool Refusal → Ruling
+says (Ok passes) = cond passes yes no
+says (Err refusal) = refused (number_of refusal)
 
 -- the tree's areas; "Its mark area is u32, 3n"
 unfoldable pub room_for : ℕ → ℕ → ℕ → ℕ → ℕ → ℕ → Bool

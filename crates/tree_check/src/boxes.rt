@@ -6,6 +6,7 @@ use geometry::aabb::Aabb;
 use tree::{layout, mesh};
 
 // Whether a triangle's indices lie below the vertex count, and its box in the tree is that of its vertices and valid.
+#[tactic(auto, unfolding(crate::specs::Steps::triangle_sound))]
 fn triangle_sound(vertices: &[f64], triangles: &[u32], boxes: &[f64], x: usize) -> bool
     requires { (3 * x + 3 ≤ length triangles.now) × (6 * x + 6 ≤ length boxes.now) }
     ensures { result ≡ triangle_sound vertices.now triangles.now boxes.now x }
@@ -25,17 +26,11 @@ pub fn triangles_sound(n: usize, vertices: &[f64], triangles: &[u32], boxes: &[f
     requires { (3 * n ≤ length triangles.now) × (6 * n ≤ length boxes.now) }
     ensures { result ≡ every (triangle_sound vertices.now triangles.now boxes.now) (range 0 n) }
 {
-    let mut x = 0;
-    while x < n {
-        if !triangle_sound(vertices, triangles, boxes, x) {
-            return false;
-        }
-        x += 1;
-    }
-    true
+    (0..n).all(|x| triangle_sound(vertices, triangles, boxes, x))
 }
 
 // Whether a box encloses the box of the triangle at an order place.
+#[tactic(auto, unfolding(crate::specs::Steps::place_enclosed))]
 fn place_enclosed(outer: Aabb, boxes: &[f64], order: &[u32], p: usize) -> bool
     requires { (p < length order.now) × (6 * get_or order.now p 0 + 6 ≤ length boxes.now) }
     ensures { result ≡ place_enclosed outer boxes.now order.now p }
@@ -48,17 +43,11 @@ fn places_enclosed(outer: Aabb, boxes: &[f64], order: &[u32], start: usize, end:
     requires { (end ≤ length order.now) × ((p : ℕ) → p < end → 6 * get_or order.now p 0 + 6 ≤ length boxes.now) }
     ensures { result ≡ every (place_enclosed outer boxes.now order.now) (range start (end - start)) }
 {
-    let mut p = start;
-    while p < end {
-        if !place_enclosed(outer, boxes, order, p) {
-            return false;
-        }
-        p += 1;
-    }
-    true
+    (start..end).all(|p| place_enclosed(outer, boxes, order, p))
 }
 
 // Whether it encloses the boxes of two nodes.
+#[tactic(auto, unfolding(crate::specs::Steps::children_enclosed))]
 fn children_enclosed(outer: Aabb, boxes: &[f64], left: usize, right: usize) -> bool
     requires { (6 * left + 6 ≤ length boxes.now) × (6 * right + 6 ≤ length boxes.now) }
     ensures { result ≡ children_enclosed outer boxes.now left right }
@@ -93,6 +82,7 @@ fn node_holds(
 }
 
 // Whether it is valid besides.
+#[tactic(auto, unfolding(crate::specs::Steps::node_fits))]
 fn node_fits(
     n: usize,
     nodes: usize,
@@ -125,12 +115,5 @@ pub fn nodes_fit(
     ensures { result ≡ every (node_fits node_boxes.now triangle_boxes.now words.now
         order.now) (range 0 nodes) }
 {
-    let mut node = 0;
-    while node < nodes {
-        if !node_fits(n, nodes, node_boxes, triangle_boxes, words, order, node) {
-            return false;
-        }
-        node += 1;
-    }
-    true
+    (0..nodes).all(|node| node_fits(n, nodes, node_boxes, triangle_boxes, words, order, node))
 }

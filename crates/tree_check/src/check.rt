@@ -6,18 +6,14 @@ ghost use Rattle.tree_check.specs.Steps.{words_pass, boxes_pass, Readable, Long}
 ghost use Rattle.tree_check.specs.Verdict.{says, room_for, Checks};
 
 use crate::{boxes, words};
-use casts::answer;
+use casts::answer::Refusal;
 use tree::{layout, mesh};
 
-// Yes, no, or a refusal with its number in document 01's table.
-#[derive(Clone, Copy)]
-pub enum Verdict {
-    Yes,
-    No,
-    Refused(u32),
-}
+// Yes, no, or a refusal of document 01's table.
+pub type Verdict = Result<bool, Refusal>;
 
 // Whether the nodes' words and the order pass.
+#[tactic(auto, unfolding(crate::specs::Steps::words_pass))]
 fn words_pass(n: usize, nodes: usize, words: &[u32], order: &[u32], marks: &mut [u32]) -> bool
     requires { (n ≤ 65536) × ((nodes ≤ 2 * n)
         × ((3 * nodes ≤ length words.now) × ((n ≤ length order.now) × (3 * n ≤ length marks.old)))) }
@@ -36,6 +32,7 @@ fn words_pass(n: usize, nodes: usize, words: &[u32], order: &[u32], marks: &mut 
 }
 
 // Whether the triangles and all boxes pass.
+#[tactic(auto, unfolding(crate::specs::Steps::boxes_pass))]
 fn boxes_pass(
     n: usize,
     nodes: usize,
@@ -102,6 +99,7 @@ fn tree_passes(
 }
 
 // Whether the areas of a tree of n triangles are as long as stated.
+#[tactic(auto, using(tree::proofs::Lengths::room_failed, tree::proofs::Lengths::room_passed), unfolding(crate::specs::Verdict::room_for))]
 fn room_for(
     n: usize,
     node_boxes: usize,
@@ -136,7 +134,7 @@ pub fn check(
         marks.old marks.new (says result) }
 {
     if !mesh::lengths_admitted(vertices.len(), triangles.len()) {
-        return Verdict::Refused(answer::BAD_SHAPE);
+        return Err(Refusal::BadShape);
     }
     if !room_for(
         triangles.len() / 3,
@@ -146,9 +144,9 @@ pub fn check(
         order.len(),
         marks.len(),
     ) {
-        return Verdict::Refused(answer::NO_ROOM);
+        return Err(Refusal::NoRoom);
     }
-    if tree_passes(
+    let passes = tree_passes(
         vertices,
         triangles,
         nodes,
@@ -157,8 +155,6 @@ pub fn check(
         node_words,
         order,
         marks,
-    ) {
-        return Verdict::Yes;
-    }
-    Verdict::No
+    );
+    Ok(passes)
 }

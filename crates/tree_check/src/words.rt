@@ -6,6 +6,7 @@ ghost use Rattle.tree_check.specs.Marks.{once, places, second_mark, marked, Insi
 use crate::marks;
 
 // Whether a leaf is not empty and does not end past n.
+#[tactic(auto, unfolding(crate::specs::Sound::leaf_sound))]
 fn leaf_sound(n: usize, start: usize, count: usize) -> bool
     requires { (start < 4294967296) × (count < 4294967296) }
     ensures { result ≡ leaf_sound n start count }
@@ -17,6 +18,7 @@ fn leaf_sound(n: usize, start: usize, count: usize) -> bool
 }
 
 // Whether a branch's children differ, lie above it and below the node count.
+#[tactic(auto, unfolding(crate::specs::Sound::branch_sound))]
 fn branch_sound(nodes: usize, node: usize, left: usize, right: usize) -> bool
     ensures { result ≡ branch_sound nodes node left right }
 {
@@ -36,6 +38,7 @@ fn branch_sound(nodes: usize, node: usize, left: usize, right: usize) -> bool
 }
 
 // Whether a node is a sound leaf or a sound branch.
+#[tactic(auto, unfolding(crate::specs::Sound::node_sound))]
 fn node_sound(n: usize, nodes: usize, words: &[u32], node: usize) -> bool
     requires { 3 * node + 3 ≤ length words.now }
     ensures { result ≡ node_sound n nodes words.now node }
@@ -57,17 +60,11 @@ pub fn nodes_sound(n: usize, nodes: usize, words: &[u32]) -> bool
     requires { 3 * nodes ≤ length words.now }
     ensures { result ≡ every (node_sound n nodes words.now) (range 0 nodes) }
 {
-    let mut node = 0;
-    while node < nodes {
-        if !node_sound(n, nodes, words, node) {
-            return false;
-        }
-        node += 1;
-    }
-    true
+    (0..nodes).all(|node| node_sound(n, nodes, words, node))
 }
 
 // The second number that a node of a kind marks.
+#[tactic(auto, unfolding(crate::specs::Marks::second_mark))]
 fn second_mark(kind: usize, n: usize, first: usize, second: usize) -> usize
     requires { (n < 4294967296) × ((first < 4294967296) × (second < 4294967296)) }
     ensures { result ≡ second_mark kind n first second }
@@ -111,14 +108,13 @@ fn mark_nodes(kind: usize, n: usize, nodes: usize, words: &[u32], marks: &mut [u
         (flat_map (marked kind n words.now) (range 0 nodes)) }
 {
     marks::clear(marks, 3 * n);
-    let mut node = 0;
-    while node < nodes {
+    for node in 0..nodes {
         mark_node(kind, n, words, node, marks);
-        node += 1;
     }
 }
 
 // Whether each node but the first is named once.
+#[tactic(auto, using(crate::proofs::OnceEach::marked_once_is, crate::proofs::Sound::branches_inside))]
 pub fn named_once(n: usize, nodes: usize, words: &[u32], marks: &mut [u32]) -> bool
     requires { ((3 * nodes ≤ length words.now) × ((n ≤ 65536) × ((nodes ≤ 2 * n) × (3 * n ≤ length marks.old))))
         × (every (node_sound n nodes words.now) (range 0 nodes) ≡ true) }
@@ -156,14 +152,13 @@ fn mark_places(n: usize, order: &[u32], marks: &mut [u32])
     ensures { (x : ℕ) → x < n → get_or marks.new x 0 ≡ count x (take n order.now) }
 {
     marks::clear(marks, n);
-    let mut p = 0;
-    while p < n {
+    for p in 0..n {
         mark_place(n, order, p, marks);
-        p += 1;
     }
 }
 
 // Whether each triangle stands in the order once.
+#[tactic(auto, using(crate::proofs::OnceEach::marked_once_is, lists::proofs::EveryLaws::every_whole))]
 pub fn ordered_once(n: usize, order: &[u32], marks: &mut [u32]) -> bool
     requires { (n ≤ length order.now) × ((n ≤ 65536) × (n ≤ length marks.old)) }
     ensures { result ≡ every (once (take n order.now)) (range 0 n) }

@@ -10,11 +10,7 @@ pub fn copy_numbers(from: &[f64], count: usize, area: &mut [f64], place: usize)
     requires { (count ≤ length from.now) × (place + count ≤ length area.old) }
     ensures { area.new ≡ sets area.old place (take count from.now) }
 {
-    let mut i = 0;
-    while i < count {
-        area[place + i] = from[i];
-        i += 1;
-    }
+    area[place..place + count].copy_from_slice(&from[..count]);
 }
 
 // The first words of a slice, moved up, from a place of the area on.
@@ -22,11 +18,9 @@ pub fn copy_words(from: &[u32], count: usize, up: usize, area: &mut [u32], place
     requires { ((count ≤ length from.now) × (place + count ≤ length area.old)) × (SmallWords from.now count up) }
     ensures { area.new ≡ sets area.old place (moved_up up (take count from.now)) }
 {
-    let mut i = 0;
-    while i < count {
+    for i in 0..count {
         let word = layout::word_at(from, i) + up;
         area[place + i] = word as u32;
-        i += 1;
     }
 }
 
@@ -64,9 +58,7 @@ pub fn copy_nodes(
     requires { ((3 * count ≤ length words.now) × (place + 3 * count ≤ length area.old)) × (SmallNodes words.now nodes places count) }
     ensures { area.new ≡ sets area.old place (moved_nodes nodes places words.now count) }
 {
-    let mut i = 0;
-    while i < count {
+    for i in 0..count {
         copy_node(words, i, nodes, places, area, place + 3 * i);
-        i += 1;
     }
 }

@@ -9,9 +9,7 @@ use mathlib.Core.List.{List, [], ◌∷◌, Memᴰ}
 use lib.Ieee.{Float}
 use Rattle.lists.proofs.Members.{Each, each_rest}
 use Rattle.casts.specs.Answer.{Answer}
-use Rattle.casts.specs.Reach.{reach_of}
-use Rattle.casts.specs.declared.answer.Reach.{Reach}
-use Rattle.casts.specs.declared.answer.Reach.TheVariants.{At, Miss, Refused}
+use Rattle.casts.specs.Reach.{reach_of, Reach, At, Miss, Refused}
 use Rattle.casts.proofs.AnswerLists.{HitsAreNumbers}
 use Rattle.nearest_hit.specs.Summary.{Kept, nobody, kept, keep_of, Found, found, lower, nearer, Summary, note_of, summary_from}
 use Rattle.nearest_hit.proofs.SummaryOrder.{exchanged, summary_order_free}

@@ -22,8 +22,7 @@ use Rattle.geometry.specs.Segment.{ray_admitted}
 use Rattle.vectors.specs.declared.vec3.Vec3.{Vec3}
 use Rattle.geometry.specs.declared.ray.Ray.{Ray}
 use Rattle.casts.specs.Answer.{Answer, hit, refused, out_of_bounds, out_of_range}
-use Rattle.casts.specs.Reach.{reach_of}
-use Rattle.casts.specs.declared.answer.Reach.TheVariants.{Refused}
+use Rattle.casts.specs.Reach.{reach_of, Refused}
 use Rattle.casts.proofs.AnswerLists.{HitsAreNumbers, hit_not_refused}
 use Rattle.tree.specs.Mesh.{Mesh, thirds, corner_at, corners_of, corners_inside, triangle_box, triangle_count}
 use Rattle.exact_triangle.specs.Line.{Line}

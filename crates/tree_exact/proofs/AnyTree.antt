@@ -14,9 +14,7 @@ use Rattle.vectors.specs.declared.vec3.Vec3.{Vec3}
 use Rattle.geometry.specs.declared.ray.Ray.{Ray}
 use Rattle.casts.specs.Answer.{Answer, hit, none, refused, invalid_input, bad_shape, no_room, wrong_pose, out_of_bounds, out_of_range}
 use Rattle.nearest_hit.specs.Nearest.{hit_at, no_hit, stopped, next_of}
-use Rattle.nearest_hit.specs.Summary.{Summary, nothing, winner, answer_at}
-use Rattle.nearest_hit.specs.declared.summary.Outcome.{Outcome}
-use Rattle.nearest_hit.specs.declared.summary.Outcome.TheVariants.{Nobody, Refused, NearestHit}
+use Rattle.nearest_hit.specs.Summary.{Summary, winner, answer_at, Outcome, Nobody, RefusedBy, NearestHit}
 use Rattle.nearest_hit.proofs.IndexedCases.{hit_not_none, hit_not_stopped}
 use Rattle.tree.specs.Layout.{Tree, word_at, kind_at, first_at, second_at}
 use Rattle.tree.specs.Mesh.{Mesh, mesh, thirds}
@@ -119,7 +117,7 @@ module _ (t : Tree) (n : ℕ) (answer : ℕ → Answer) (opens : ℕ → Summary
         → answer_at answer o ≡ hit_at normal distance i → Answered
     unfolding answer_at
     won s h Nobody e is = absurd (hit_not_none normal distance i (sym is))
-    won s h (Refused k) e is = absurd (hit_not_stopped normal distance i k (sym is))
+    won s h (RefusedBy k) e is = absurd (hit_not_stopped normal distance i k (sym is))
     won s h (NearestHit x d) e is =
         next_answered x (winner_reached t n answer opens left_first s.refuser s.least h x d e).0 (answer x) refl is
 

@@ -15,7 +15,7 @@ use Rattle.geometry.specs.declared.aabb.Aabb.{Aabb}
 use Rattle.tree.specs.Layout.{box_at}
 use Rattle.exact_depth.specs.declared.projection.Projected.{Projected}
 use Rattle.exact_triangle.specs.Line.{Line}
-use Rattle.exact_triangle.specs.Shear.{Main, alongX, alongY, alongZ, main_of, ahead, heading, gain}
+use Rattle.exact_triangle.specs.Shear.{Main, alongX, alongY, alongZ, main_of, heading, gain}
 use Rattle.exact_triangle.specs.Grid.{all_within, furthest}
 use Rattle.exact_triangle.specs.Box.{certain_box}
 use Rattle.exact_triangle.specs.declared.view.View.{View}

@@ -1,4 +1,6 @@
 -- The exact cast through a tree: what the walk found is its answer, and each refusal. Assumes nothing.
+use Rattle.std.specs.Prelude.{Option, Some, None}
+use Rattle.nearest_hit.specs.Summary.{Outcome, Nobody, RefusedBy, NearestHit}
 use Prim.Native.Nat.{ℕ, ◌+◌, ◌*◌, ◌<◌}
 use mathlib.Core.Path.{◌≡◌, sym, ap, subst, ◌∙◌}
 use mathlib.Core.Bool.{Bool, true, false, ◌&&◌}
@@ -13,13 +15,10 @@ use Rattle.lists.proofs.RefusalLaws as Refusals
 use Rattle.geometry.specs.Segment.{ray_admitted}
 use Rattle.geometry.specs.declared.ray.Ray.{Ray}
 use Rattle.casts.specs.Answer.{Answer, invalid_input, bad_shape, no_room, wrong_pose, out_of_bounds, out_of_range}
-use Rattle.casts.specs.Reach.{reach_of}
-use Rattle.casts.specs.declared.answer.Reach.TheVariants.{At}
+use Rattle.casts.specs.Reach.{reach_of, At}
 use Rattle.nearest_hit.specs.Nearest.{Indexed, no_hit, stopped, next_of}
 use Rattle.nearest_hit.specs.Summary.{Kept, nobody, kept, Found, Summary, winner_of, winner, answer_at, says_nearest_so_far}
 use Rattle.nearest_hit.specs.declared.summary.NearestSoFar.{NearestSoFar}
-use Rattle.nearest_hit.specs.declared.summary.Outcome.{Outcome}
-use Rattle.nearest_hit.specs.declared.summary.Outcome.TheVariants.{Nobody, Refused, NearestHit}
 use Rattle.tree.specs.Layout.{Tree}
 use Rattle.tree.specs.Mesh.{Mesh, thirds, lengths_admitted}
 use Rattle.tree_query.specs.Query.{tree_fits, walk_fits}
@@ -27,8 +26,6 @@ use Rattle.tree_query.proofs.Queries.{fits_room}
 use Rattle.mesh.specs.MeshCast.{shape_admitted}
 use Rattle.exact_triangle.specs.Grid.{grid_admitted, grid_line}
 use Rattle.exact_triangle.specs.declared.view.View.{View}
-use Rattle.exact_triangle.specs.declared.view.GridView.{GridView}
-use Rattle.exact_triangle.specs.declared.view.GridView.TheVariants.{On, Off}
 use Rattle.exact_triangle.specs.View.{Shown, Viewed}
 use Rattle.tree_exact.specs.Onward.{Reached}
 use Rattle.tree_exact.specs.Opening.{opens_node}
@@ -36,23 +33,21 @@ use Rattle.tree_exact.specs.Order.{left_first}
 use Rattle.mesh_exact.specs.GridCast.{exact_answer}
 use Rattle.tree_exact.specs.ExactMesh.{exact_through, room_for, exact_tests, tests_pass, ray_mesh_exact}
 use Rattle.tree_exact.specs.Walking.{WalkRoom, WalkedBy}
-use Rattle.tree_exact.specs.declared.walk.Walked.{Walked}
-use Rattle.tree_exact.specs.declared.walk.Walked.TheVariants.{Ended, Broken}
 
 -- ---- a triangle that wins is one that is reached
 abbrev kind : Outcome → ℕ
 kind Nobody = 0
-kind (Refused number) = 1
+kind (RefusedBy number) = 1
 kind (NearestHit index distance) = 2
 
 abbrev hit_index : Outcome → ℕ
 hit_index Nobody = 0
-hit_index (Refused number) = 0
+hit_index (RefusedBy number) = 0
 hit_index (NearestHit index distance) = index
 
 abbrev hit_distance : Float → Outcome → Float
 hit_distance other Nobody = other
-hit_distance other (Refused number) = other
+hit_distance other (RefusedBy number) = other
 hit_distance other (NearestHit index distance) = distance
 
 module _ (t : Tree) (n : ℕ) (answer : ℕ → Answer) (opens : ℕ → Summary → Bool) (left_first : ℕ → Bool) where
@@ -65,7 +60,8 @@ module _ (t : Tree) (n : ℕ) (answer : ℕ → Answer) (opens : ℕ → Summary
       subst (λ (i : ℕ). (i < n) × (reach_of (answer i) ≡ At distance)) (ap hit_index e)
       (subst (λ (d : Float). (best.index < n) × (reach_of (answer best.index) ≡ At d)) (ap (hit_distance distance) e) h)
 
-module _ (r : Ray) (pose : List Float) (triangles : List ℕ) (t : Tree) (result : Walked) (walked : WalkedBy r pose triangles t result)
+module _ (r : Ray) (pose : List Float) (triangles : List ℕ) (t : Tree) (result : Option NearestSoFar) (walked : WalkedBy r pose triangles
+    t result)
   where
     abbrev n : ℕ
     n = thirds (length triangles)
@@ -73,21 +69,21 @@ module _ (r : Ray) (pose : List Float) (triangles : List ℕ) (t : Tree) (result
     abbrev answer : ℕ → Answer
     answer = exact_answer r pose triangles
 
-    known : (w : Walked) → result ≡ w → WalkedBy r pose triangles t w
+    known : (w : Option NearestSoFar) → result ≡ w → WalkedBy r pose triangles t w
     known w e = subst (WalkedBy r pose triangles t) e walked
 
-    pub through_broken : result ≡ Broken → stopped out_of_bounds ≡ exact_through r pose triangles t
-    through_broken e = known Broken e
+    pub through_broken : result ≡ None → stopped out_of_bounds ≡ exact_through r pose triangles t
+    through_broken e = known None e
 
-    module _ (notes : NearestSoFar) (e : result ≡ Ended notes) (outcome : Outcome) (w : outcome ≡ winner (says_nearest_so_far notes)) where
+    module _ (notes : NearestSoFar) (e : result ≡ Some notes) (outcome : Outcome) (w : outcome ≡ winner (says_nearest_so_far notes)) where
       ends : answer_at answer outcome ≡ exact_through r pose triangles t
-      ends = ap (answer_at answer) w ∙ (known (Ended notes) e).0
+      ends = ap (answer_at answer) w ∙ (known (Some notes) e).0
 
       pub through_nobody : outcome ≡ Nobody → no_hit ≡ exact_through r pose triangles t
       unfolding answer_at
       through_nobody h = ap (answer_at answer) (sym h) ∙ ends
 
-      pub through_refused : (number : ℕ) → outcome ≡ Refused number → stopped number ≡ exact_through r pose triangles t
+      pub through_refused : (number : ℕ) → outcome ≡ RefusedBy number → stopped number ≡ exact_through r pose triangles t
       unfolding answer_at
       through_refused number h = ap (answer_at answer) (sym h) ∙ ends
 
@@ -95,7 +91,7 @@ module _ (r : Ray) (pose : List Float) (triangles : List ℕ) (t : Tree) (result
         pub through_reached : (index < n) × (reach_of (answer index) ≡ At distance)
         through_reached =
             winner_reached t n answer (opens_node (grid_line r) t) (left_first (grid_line r) t) (says_nearest_so_far notes).refuser
-            (says_nearest_so_far notes).least (known (Ended notes) e).1 index distance (sym w ∙ h)
+            (says_nearest_so_far notes).least (known (Some notes) e).1 index distance (sym w ∙ h)
 
         pub through_hit : (a : Answer) → a ≡ answer index → (x : Indexed) → x ≡ next_of no_hit index a → x
             ≡ exact_through r pose triangles t
@@ -103,10 +99,10 @@ module _ (r : Ray) (pose : List Float) (triangles : List ℕ) (t : Tree) (result
         through_hit a f x g = g ∙ ap (next_of no_hit index) f ∙ ap (answer_at answer) (sym h) ∙ ends
 
 -- ---- what the ray's line is
-pub off_line : (r : Ray) (viewed : GridView) → Viewed r viewed → viewed ≡ Off → grid_admitted r ≡ false
+pub off_line : (r : Ray) (viewed : Option View) → Viewed r viewed → viewed ≡ None → grid_admitted r ≡ false
 off_line r viewed h e = subst (Viewed r) e h
 
-pub on_line : (r : Ray) (viewed : GridView) → Viewed r viewed → (line : View) → viewed ≡ On line → Shown r line
+pub on_line : (r : Ray) (viewed : Option View) → Viewed r viewed → (line : View) → viewed ≡ Some line → Shown r line
 on_line r viewed h line e = subst (Viewed r) e h
 
 -- ---- refusals 1, 12 and 2 to 4, in their order

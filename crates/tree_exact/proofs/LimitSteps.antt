@@ -9,8 +9,8 @@ use lib.Ieee.{Float}
 use mir.Syntax.{w64}
 use mir.Val.{SFits}
 use Rattle.nearest_hit.specs.Summary.{Kept, nobody, kept, Found, found, says_chosen_hit}
-use Rattle.nearest_hit.specs.declared.summary.ChosenHit.{ChosenHit}
-use Rattle.nearest_hit.specs.declared.summary.ChosenHit.TheVariants.{At}
+use Rattle.nearest_hit.specs.declared.summary.IndexedReach.{IndexedReach}
+use Rattle.std.specs.Prelude.{Option, Some}
 use Rattle.wide_integers.specs.Sizes.{Sized}
 use Rattle.wide_integers.proofs.Reading.{bits, widen, sum_size, add-fits, add_read}
 use Rattle.exact_triangle.specs.Line.{Line}
@@ -43,23 +43,23 @@ module _ (line : View) (l : Line) (sees : Sees line l) where
   pub past_none : line.far +ℤ line.gain ≡ pos (limit_of l nobody * gain l)
   past_none = far_past nobody refl
 
-  module _ (least : ChosenHit) (index : ℕ) (distance : Float) (is : least ≡ At index distance) where
+  module _ (least : Option IndexedReach) (h : IndexedReach) (is : least ≡ Some h) where
     abbrev best : Found Float
-    best = found index distance
+    best = found h.index h.distance
 
     as_least : (z : ℤ) → z ≡ pos (limit_of l (kept best) * gain l) → z ≡ pos (limit_of l (says_chosen_hit least) * gain l)
-    as_least z e = e ∙ ap (λ (h : ChosenHit). pos (limit_of l (says_chosen_hit h) * gain l)) (sym is)
+    as_least z e = e ∙ ap (λ (x : Option IndexedReach). pos (limit_of l (says_chosen_hit x) * gain l)) (sym is)
 
-    pub past_long : within longest distance ≡ false → line.far +ℤ line.gain ≡ pos (limit_of l (says_chosen_hit least) * gain l)
-    past_long h =
+    pub past_long : within longest h.distance ≡ false → line.far +ℤ line.gain ≡ pos (limit_of l (says_chosen_hit least) * gain l)
+    past_long e =
         as_least (line.far +ℤ line.gain)
-        (far_past (kept best) (ap (λ (k : Bool). cond k (suc (nat_abs (nearest_to units distance))) (suc l.far)) h))
+        (far_past (kept best) (ap (λ (k : Bool). cond k (suc (nat_abs (nearest_to units h.distance))) (suc l.far)) e))
 
-    pub past_hit : within longest distance ≡ true → {d G : ℤ} → d ≡ pos (nat_abs (nearest_to units distance)) *ℤ G → G ≡ line.gain
+    pub past_hit : within longest h.distance ≡ true → {d G : ℤ} → d ≡ pos (nat_abs (nearest_to units h.distance)) *ℤ G → G ≡ line.gain
         → d +ℤ line.gain ≡ pos (limit_of l (says_chosen_hit least) * gain l)
-    past_hit h {d = d} e g =
-        let n = nat_abs (nearest_to units distance) in
+    past_hit w {d = d} e g =
+        let n = nat_abs (nearest_to units h.distance) in
         as_least (d +ℤ line.gain)
         ((λ i. (e ∙ ap (λ (z : ℤ). pos n *ℤ z) (g ∙ sees.gain)) i +ℤ sees.gain i)
         ∙ one_more n (gain l)
-        ∙ ap (λ (k : ℕ). pos (k * gain l)) (sym (ap (λ (k : Bool). cond k (suc n) (suc l.far)) h)))
+        ∙ ap (λ (k : ℕ). pos (k * gain l)) (sym (ap (λ (k : Bool). cond k (suc n) (suc l.far)) w)))

@@ -10,9 +10,7 @@ use borrow.Author.Tests.{ne_eqb, eq-eqb}
 use Rattle.lists.specs.Lists.{range}
 use Rattle.lists.proofs.EveryLaws.{range_next, range_done}
 use Rattle.casts.specs.Answer.{Answer, out_of_bounds}
-use Rattle.casts.specs.Reach.{reach_of}
-use Rattle.casts.specs.declared.answer.Reach.{Reach}
-use Rattle.casts.specs.declared.answer.Reach.TheVariants.{At, Miss, Refused}
+use Rattle.casts.specs.Reach.{reach_of, Reach, At, Miss, Refused}
 use Rattle.nearest_hit.specs.Nearest.{Indexed, stopped}
 use Rattle.nearest_hit.specs.Summary.{Kept, nobody, kept, keep_of, Found, found, nearer, Summary, nothing, note_of, winner, answer_at}
 use Rattle.tree.specs.Layout.{Tree, word_at}

@@ -1,4 +1,5 @@
 -- How each step of the code moves the exact cast's walk. Assumes nothing.
+use Rattle.std.specs.Prelude.{Option, Some, None}
 use Prim.Native.Nat.{ℕ, suc, ◌+◌, ◌-◌, ◌*◌, ◌≤◌, ◌<◌}
 use mathlib.Core.Path.{◌≡◌, refl, sym, ap, ◌∙◌, subst}
 use mathlib.Core.Bool.{Bool, true, false, cond}
@@ -11,9 +12,7 @@ use lib.ListN.{length, length-set, set}
 use Rattle.lists.specs.Lists.{range}
 use Rattle.geometry.specs.declared.aabb.Aabb.{Aabb}
 use Rattle.geometry.specs.declared.ray.Ray.{Ray}
-use Rattle.casts.specs.Reach.{reach_of}
-use Rattle.casts.specs.declared.answer.Reach.{Reach}
-use Rattle.casts.specs.declared.answer.Reach.TheVariants.{Miss}
+use Rattle.casts.specs.Reach.{reach_of, Reach, Miss}
 use Rattle.tree_exact.specs.Culling.{Culled}
 use Rattle.nearest_hit.specs.Summary.{Summary, nothing, note_of, says_nearest_so_far}
 use Rattle.nearest_hit.specs.declared.summary.NearestSoFar.{NearestSoFar}
@@ -39,11 +38,8 @@ use Rattle.mesh_exact.specs.Noted.{Bounded}
 use Rattle.tree_exact.specs.ExactMesh.{exact_through}
 use Rattle.tree_exact.specs.Walking.{Limited, Stands, Tests, NearestSoFarLeaf, Reads, OpensNode, TakesNode, Walks}
 use Rattle.tree_exact.specs.declared.walk.Best.{Best}
-use Rattle.tree_exact.specs.declared.walk.Noted.{Noted}
-use Rattle.tree_exact.specs.declared.walk.Noted.TheVariants.{NearestSoFar as Found, Bad as BadPlace}
 use Rattle.tree_exact.specs.declared.walk.Step.{Step}
 use Rattle.tree_exact.specs.declared.walk.Step.TheVariants.{NothingFound, Next, Bad}
-use Rattle.tree_exact.specs.declared.walk.Walked.TheVariants.{Ended, Broken}
 
 -- ---- the places of a leaf
 module _ (line : View) (hull : Aabb) (pose : List Float) (triangles order : List ℕ) (start end : ℕ) (notes : NearestSoFar) where
@@ -61,7 +57,7 @@ module _ (line : View) (hull : Aabb) (pose : List Float) (triangles order : List
       at : (t : Tree) → t.order ≡ order → x ≡ word_at t.order place
       at t o = is ∙ ap (λ (l : List ℕ). word_at l place) (sym o)
 
-      pub leaf_bad : thirds (length triangles) ≤ x → NearestSoFarLeaf line hull pose triangles order start end notes BadPlace
+      pub leaf_bad : thirds (length triangles) ≤ x → NearestSoFarLeaf line hull pose triangles order start end notes None
       unfolding exact_through
       leaf_bad h = record {
         holds = λ r on t o k stack s.
@@ -87,7 +83,7 @@ module _ (line : View) (hull : Aabb) (pose : List Float) (triangles order : List
       unfolding note_of
       leaf_culls h out = leaf_goes h Miss (λ r on. out.missed r line on) found refl
 
-    pub leaf_ends : end ≤ place → NearestSoFarLeaf line hull pose triangles order start end notes (Found found)
+    pub leaf_ends : end ≤ place → NearestSoFarLeaf line hull pose triangles order start end notes (Some found)
     leaf_ends h = record {
       holds = λ r on t o k stack s.
           places_done t (thirds (length triangles)) (exact_answer r pose triangles) (opens_node (grid_line r) t)
@@ -109,8 +105,8 @@ module _ (line : View) (hull : Aabb) (pose : List Float) (triangles : List ℕ) 
       pub leaf_within : n ≤ length order → end ≤ length order
       leaf_within h = le_trans opened.stands h
 
-      pub opens_leaf : (result : Noted) → NearestSoFarLeaf line hull pose triangles order start end best.notes result
-          → (notes : NearestSoFar) → result ≡ Found notes → (after : Best) → after.notes ≡ notes → Limited line after
+      pub opens_leaf : (result : Option NearestSoFar) → NearestSoFarLeaf line hull pose triangles order start end best.notes result
+          → (notes : NearestSoFar) → result ≡ Some notes → (after : Best) → after.notes ≡ notes → Limited line after
           → OpensNode line hull pose triangles nodes boxes words order area node top best (Next top after) area
       opens_leaf result noted notes f after g limited = record {
         holds = λ r on t reads k o tests.
@@ -125,8 +121,8 @@ module _ (line : View) (hull : Aabb) (pose : List Float) (triangles : List ℕ) 
         stands = (omega arith, limited);
       }
 
-      pub opens_leaf_bad : (result : Noted) → NearestSoFarLeaf line hull pose triangles order start end best.notes result
-          → result ≡ BadPlace → OpensNode line hull pose triangles nodes boxes words order area node top best Bad area
+      pub opens_leaf_bad : (result : Option NearestSoFar) → NearestSoFarLeaf line hull pose triangles order start end best.notes result
+          → result ≡ None → OpensNode line hull pose triangles nodes boxes words order area node top best Bad area
       opens_leaf_bad result noted f = record {
         holds = λ r on t reads k o tests.
             (subst (NearestSoFarLeaf line hull pose triangles order start end best.notes) f noted).holds r on t reads.ordered k
@@ -263,7 +259,7 @@ module _ (line : View) (hull : Aabb) (pose : List Float) (triangles : List ℕ) 
         → Stands r pose triangles t left [] (on_stack area top) (says_nearest_so_far best.notes)
 
   pub walks_empty : nodes ≡ 0 → (notes : NearestSoFar) → says_nearest_so_far notes ≡ nothing
-      → Walks line hull pose triangles nodes boxes words order (Ended notes)
+      → Walks line hull pose triangles nodes boxes words order (Some notes)
   unfolding exact_through
   walks_empty z notes e = record {
     holds = λ r on t reads.
@@ -296,7 +292,7 @@ module _ (line : View) (hull : Aabb) (pose : List Float) (triangles : List ℕ) 
 
   module _ (area₀ area : List ℕ) (top left : ℕ) (best : Best) (far : WalkSoFar area₀ area top left best) where
     pub walk_ended : top ≡ 0 → (notes : NearestSoFar) → notes ≡ best.notes → Walks line hull pose triangles nodes boxes words order
-        (Ended notes)
+        (Some notes)
     unfolding exact_through
     walk_ended z notes e = record {
       holds = λ r on t reads.
@@ -311,7 +307,7 @@ module _ (line : View) (hull : Aabb) (pose : List Float) (triangles : List ℕ) 
           (stands_ended t count answer opens lf left (says_nearest_so_far notes) now', now'.reached);
     }
 
-    pub walk_used_up : left ≡ 0 → 0 < top → Walks line hull pose triangles nodes boxes words order Broken
+    pub walk_used_up : left ≡ 0 → 0 < top → Walks line hull pose triangles nodes boxes words order None
     unfolding exact_through
     walk_used_up z some = record {
       holds = λ r on t reads.
@@ -336,7 +332,7 @@ module _ (line : View) (hull : Aabb) (pose : List Float) (triangles : List ℕ) 
 
       pub walk_broken : (area' : List ℕ) (result : Step)
           → TakesNode line hull pose triangles nodes boxes words order area top best result area' → result ≡ Bad
-          → Walks line hull pose triangles nodes boxes words order Broken
+          → Walks line hull pose triangles nodes boxes words order None
       walk_broken area' result taken e = record {
         holds = λ r on t reads.
             (subst (λ (w : Step). TakesNode line hull pose triangles nodes boxes words order area top best w area') e taken).holds r on t

@@ -4,8 +4,7 @@ use Rattle.vectors.specs.declared.vec3.Vec3.{Vec3}
 use Rattle.geometry.specs.Box.{corners_box, touches}
 use Rattle.geometry.specs.declared.aabb.Aabb.{Aabb}
 use Rattle.geometry.specs.declared.ray.Ray.{Ray}
-use Rattle.casts.specs.Reach.{reach_of}
-use Rattle.casts.specs.declared.answer.Reach.TheVariants.{Miss}
+use Rattle.casts.specs.Reach.{reach_of, Miss}
 use Rattle.exact_triangle.specs.Reach.{corners_read}
 use Rattle.exact_triangle.specs.declared.view.View.{View}
 use Rattle.mesh_exact.specs.GridCast.{exact_answer}

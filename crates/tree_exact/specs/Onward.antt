@@ -2,8 +2,7 @@
 use Rattle.std.specs.Prelude.{ℕ, ◌-◌, ◌≤◌, ◌<◌, ◌≡◌, Bool, true, cond, List, [], ◌∷◌, Float}
 use Rattle.lists.specs.Lists.{range}
 use Rattle.casts.specs.Answer.{Answer, out_of_bounds}
-use Rattle.casts.specs.Reach.{reach_of}
-use Rattle.casts.specs.declared.answer.Reach.TheVariants.{At}
+use Rattle.casts.specs.Reach.{reach_of, At}
 use Rattle.nearest_hit.specs.Nearest.{Indexed, stopped}
 use Rattle.nearest_hit.specs.Summary.{Kept, nobody, kept, Found, Summary}
 use Rattle.tree.specs.Layout.{Tree, first_at, second_at}

@@ -1,5 +1,5 @@
 -- Inner contracts only: the steps of the exact cast's walk. Definitions only. Assumes nothing.
-use Rattle.std.specs.Prelude.{ℕ, suc, ◌+◌, ◌-◌, ◌*◌, ◌≤◌, ◌≡◌, true, List, [], pos, Float, length}
+use Rattle.std.specs.Prelude.{ℕ, suc, ◌+◌, ◌-◌, ◌*◌, ◌≤◌, ◌≡◌, true, List, [], pos, Float, length, Option, Some, None}
 use Rattle.lists.specs.Lists.{range}
 use Rattle.geometry.specs.declared.aabb.Aabb.{Aabb}
 use Rattle.geometry.specs.declared.ray.Ray.{Ray}
@@ -23,12 +23,8 @@ use Rattle.mesh_exact.specs.GridCast.{exact_answer}
 use Rattle.mesh_exact.specs.Noted.{Bounded}
 use Rattle.tree_exact.specs.ExactMesh.{exact_through}
 use Rattle.tree_exact.specs.declared.walk.Best.{Best}
-use Rattle.tree_exact.specs.declared.walk.Noted.{Noted}
-use Rattle.tree_exact.specs.declared.walk.Noted.TheVariants.{NearestSoFar as Found, Bad as BadPlace}
 use Rattle.tree_exact.specs.declared.walk.Step.{Step}
 use Rattle.tree_exact.specs.declared.walk.Step.TheVariants.{NothingFound, Next, Bad}
-use Rattle.tree_exact.specs.declared.walk.Walked.{Walked}
-use Rattle.tree_exact.specs.declared.walk.Walked.TheVariants.{Ended, Broken}
 
 -- how far a box can be and still be met
 pub record Limited (line : View) (best : Best) : Type 0 where
@@ -48,9 +44,9 @@ module _ (r : Ray) (pose : List Float) (triangles : List ℕ) (t : Tree) where
   Refuses = stopped out_of_bounds ≡ exact_through r pose triangles t
 
   -- after a leaf
-  abbrev pub NotedBy : ℕ → List ℕ → Noted → Type 0
-  NotedBy k stack (Found notes) = Stands k [] stack (says_nearest_so_far notes)
-  NotedBy k stack BadPlace = Refuses
+  abbrev pub NotedBy : ℕ → List ℕ → Option NearestSoFar → Type 0
+  NotedBy k stack (Some notes) = Stands k [] stack (says_nearest_so_far notes)
+  NotedBy k stack None = Refuses
 
   -- after a node, with what was found before it
   abbrev pub SteppedBy : ℕ → List ℕ → NearestSoFar → Step → Type 0
@@ -59,16 +55,16 @@ module _ (r : Ray) (pose : List Float) (triangles : List ℕ) (t : Tree) where
   SteppedBy k area notes Bad = Refuses
 
   -- after the walk
-  abbrev pub WalkedBy : Walked → Type 0
-  WalkedBy (Ended notes) =
+  abbrev pub WalkedBy : Option NearestSoFar → Type 0
+  WalkedBy (Some notes) =
       (answer_at (exact_answer r pose triangles) (winner (says_nearest_so_far notes)) ≡ exact_through r pose triangles t)
       × Reached t (thirds (length triangles)) (exact_answer r pose triangles) (opens_node (grid_line r) t) (left_first (grid_line r) t)
       (says_nearest_so_far notes).least
-  WalkedBy Broken = Refuses
+  WalkedBy None = Refuses
 
 -- the places of a leaf, for every ray on the line and every tree of that order
 pub record NearestSoFarLeaf (line : View) (reach : Aabb) (pose : List Float) (triangles order : List ℕ) (start end : ℕ)
-    (notes : NearestSoFar) (result : Noted) : Type 0
+    (notes : NearestSoFar) (result : Option NearestSoFar) : Type 0
   where
     pub holds : (r : Ray) → Bounded r line reach → (t : Tree) → t.order ≡ order → (k : ℕ) (stack : List ℕ)
         → Stands r pose triangles t k (range start (end - start)) stack (says_nearest_so_far notes)
@@ -112,5 +108,5 @@ pub record TakesNode (line : View) (reach : Aabb) (pose : List Float) (triangles
 
 -- the whole walk
 pub record Walks (line : View) (reach : Aabb) (pose : List Float) (triangles : List ℕ) (nodes : ℕ) (boxes : List Float)
-    (words order : List ℕ) (result : Walked) : Type 0 where
+    (words order : List ℕ) (result : Option NearestSoFar) : Type 0 where
   pub holds : (r : Ray) → Bounded r line reach → (t : Tree) → Reads t nodes boxes words order → WalkedBy r pose triangles t result

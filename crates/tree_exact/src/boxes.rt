@@ -27,32 +27,27 @@ fn side_of(low: f64, high: f64, o: i64) -> Span
     }
 }
 
-// The side on the axis is the depth, and the two others, in cyclic order, are across and up.
+// The side on the axis is the depth, and the two others, in cyclic order, are across and up. A point's `facing` is as short, and a function
+// for both would be longer: it would have to be told how the record of three numbers and that of three spans are made.
 fn facing_room(axis: Axis, x: Span, y: Span, z: Span) -> Room
     ensures { result ≡ facing_room (main_as axis) x y z }
 {
     match axis {
-        Axis::X => {
-            return Room {
-                across: y,
-                up: z,
-                depth: x,
-            };
-        }
-        Axis::Y => {
-            return Room {
-                across: z,
-                up: x,
-                depth: y,
-            };
-        }
-        Axis::Z => {
-            return Room {
-                across: x,
-                up: y,
-                depth: z,
-            };
-        }
+        Axis::X => Room {
+            across: y,
+            up: z,
+            depth: x,
+        },
+        Axis::Y => Room {
+            across: z,
+            up: x,
+            depth: y,
+        },
+        Axis::Z => Room {
+            across: x,
+            up: y,
+            depth: z,
+        },
     }
 }
 

@@ -8,22 +8,22 @@ ghost use Rattle.exact_triangle.specs.Grid.{grid_admitted};
 ghost use Rattle.tree_exact.specs.ExactMesh.{exact_through, CastsExact};
 ghost use Rattle.tree_exact.specs.Walking.{WalkRoom};
 
-use crate::walk::Walked;
 use crate::{root, walk};
-use casts::answer;
+use casts::answer::Refusal;
 use exact_triangle::{cast as triangle, view};
 use geometry::ray::Ray;
 use mesh::cast as mesh_cast;
 use mesh_exact::bounds;
 use nearest_hit::nearest::IndexedCast;
-use nearest_hit::summary::Outcome;
 use nearest_hit::{nearest, summary};
 use tree::mesh as triangle_mesh;
 use tree_query::query;
 
 // The cast once refusals 1, 12 of the ray and 2 to 4 have let it pass, as its caller, the public call, shows; the stack may hold anything
 // afterwards. Only the winner's normal is computed. A ray far off the mesh is answered at the root's box.
-fn exact_through(
+// It is compiled into each of its two users, this cast and that of many rays.
+#[inline(always)]
+pub fn exact_through(
     ray: Ray,
     triangles: &[u32],
     pose: &[f64],
@@ -41,28 +41,20 @@ fn exact_through(
 {
     let reach = bounds::segment_box(ray);
     if root::misses_root(reach, nodes, node_boxes) {
-        return IndexedCast::None;
+        return Ok(None);
     }
     let walked = walk::nearest_along(
         ray, reach, pose, triangles, nodes, node_boxes, node_words, order, stack,
     );
-    let Walked::Ended(notes) = walked else {
-        return IndexedCast::Refused(answer::OUT_OF_BOUNDS);
+    let Some(notes) = walked else {
+        return Err(Refusal::OutOfBounds);
     };
-    let winner = summary::winner(notes);
-    match winner {
-        Outcome::Nobody => {
-            return IndexedCast::None;
-        }
-        Outcome::Refused(number) => {
-            return IndexedCast::Refused(number);
-        }
-        Outcome::NearestHit { index, distance } => {
-            let corners = triangle_mesh::corners_of(pose, triangles, index as usize);
-            let hit = triangle::hit_on(ray, corners, distance);
-            return nearest::next(IndexedCast::None, index, hit);
-        }
-    }
+    let Some(winner) = summary::winner(notes)? else {
+        return Ok(None);
+    };
+    let corners = triangle_mesh::corners_of(pose, triangles, winner.index as usize);
+    let hit = triangle::hit_on(ray, corners, winner.distance);
+    nearest::next(Ok(None), winner.index, hit)
 }
 
 // Whether the tree's areas and the stack are long enough.
@@ -107,13 +99,13 @@ pub fn ray_mesh_exact(
         stack.old stack.new (says_indexed result) }
 {
     if !ray.validate() {
-        return IndexedCast::Refused(answer::INVALID_INPUT);
+        return Err(Refusal::InvalidInput);
     }
     if !view::admitted(ray) {
-        return IndexedCast::Refused(answer::OUT_OF_RANGE);
+        return Err(Refusal::OutOfRange);
     }
     if !mesh_cast::shape_admitted(vertices.len(), triangles.len(), pose.len(), nodes) {
-        return IndexedCast::Refused(answer::BAD_SHAPE);
+        return Err(Refusal::BadShape);
     }
     if !room_fits(
         triangles.len() / 3,
@@ -124,10 +116,10 @@ pub fn ray_mesh_exact(
         order,
         stack.len(),
     ) {
-        return IndexedCast::Refused(answer::NO_ROOM);
+        return Err(Refusal::NoRoom);
     }
     if pose.len() != vertices.len() {
-        return IndexedCast::Refused(answer::WRONG_POSE);
+        return Err(Refusal::WrongPose);
     }
     exact_through(
         ray,

@@ -5,7 +5,7 @@ ghost use Rattle.tree_exact.specs.Onward.{Opens};
 
 use tree::layout;
 
-// The places of a leaf, the children of a branch, or neither, a 5.
+// The places of a leaf, the children of a branch, or neither, a 5: three kinds of node.
 #[derive(Clone, Copy)]
 pub enum Node {
     Leaf { start: usize, end: usize },

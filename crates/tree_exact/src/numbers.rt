@@ -46,12 +46,10 @@ pub fn has_numbers(vertices: &[f64], triangles: &[u32]) -> bool
     ensures no_nan { result ≡ true → NoNaN (mesh vertices.now triangles.now) }
 {
     let count = triangles.len() / 3;
-    let mut i: usize = 0;
-    while i < count {
+    for i in 0..count {
         if !corners_numbered(vertices, triangles, i) {
             return false;
         }
-        i += 1;
     }
     true
 }

@@ -14,15 +14,9 @@ fn coordinate_on(axis: Axis, v: Vec3) -> f64
     ensures { result ≡ coordinate_on (main_as axis) v }
 {
     match axis {
-        Axis::X => {
-            return v.x;
-        }
-        Axis::Y => {
-            return v.y;
-        }
-        Axis::Z => {
-            return v.z;
-        }
+        Axis::X => v.x,
+        Axis::Y => v.y,
+        Axis::Z => v.z,
     }
 }
 

@@ -1,7 +1,7 @@
 ghost use Rattle.std.specs.Prelude.{◌≡◌, true, ◌+◌, ◌*◌, ◌<◌, ◌≤◌, pos, length};
 ghost use Rattle.geometry.specs.Segment.{ray_admitted};
 ghost use Rattle.geometry.specs.declared.ray.Ray.{Ray as AnyRay};
-ghost use Rattle.casts.specs.Reach.{reach_of};
+ghost use Rattle.casts.specs.Reach.{reach_of, says_reach};
 ghost use Rattle.nearest_hit.specs.Summary.{says_chosen_hit};
 ghost use Rattle.tree.specs.Mesh.{thirds};
 ghost use Rattle.wide_integers.specs.Sizes.{Sized};
@@ -19,15 +19,14 @@ ghost use Rattle.tree_exact.specs.AtRoot.{WalksAlong};
 
 use crate::node::Node;
 use crate::{apart, boxes, node as nodes_read, order as children};
-use casts::answer;
-use casts::answer::Reach;
+use casts::answer::{Reach, Refusal};
 use exact_triangle::view::View;
 use exact_triangle::{grid, view};
 use geometry::aabb::Aabb;
 use geometry::ray::Ray;
 use mesh_exact::noted;
 use nearest_hit::summary;
-use nearest_hit::summary::{ChosenHit, NearestSoFar};
+use nearest_hit::summary::{IndexedReach, NearestSoFar};
 use tree::{layout, mesh as triangle_mesh};
 
 // What was found so far, and the depth from which on nothing can take its place.
@@ -37,14 +36,8 @@ pub struct Best {
     pub past: i64,
 }
 
-// What was found with a leaf's triangles, or that a place of it is none, a 5.
-#[derive(Clone, Copy)]
-pub enum Noted {
-    NearestSoFar(NearestSoFar),
-    Bad,
-}
-
-// How many nodes stand on the stack after a node, and what was found so far if the node was a leaf; or a 5.
+// How many nodes stand on the stack after a node, and what was found so far if the node was a leaf; or a 5. Three outcomes, of which two
+// carry on with different data.
 #[derive(Clone, Copy)]
 pub enum Step {
     NothingFound(usize),
@@ -52,25 +45,18 @@ pub enum Step {
     Bad,
 }
 
-// What the whole walk found, or a 5.
-#[derive(Clone, Copy)]
-pub enum Walked {
-    Ended(NearestSoFar),
-    Broken,
-}
-
 // The depth from which on nothing can take the place of the nearest hit so far.
-fn past_of(line: View, least: ChosenHit) -> i64
+fn past_of(line: View, least: Option<IndexedReach>) -> i64
     requires { ViewSized line }
     ensures { Sized 4611686018427387904 result × ((l : Line) → Sees line l → result ≡ pos (limit_of l (says_chosen_hit least) * gain l)) }
 {
-    let ChosenHit::At { index: _, distance } = least else {
+    let Some(nearest) = least else {
         return line.far + line.gain;
     };
-    if !grid::within(grid::LONGEST, distance) {
+    if !grid::within(grid::LONGEST, nearest.distance) {
         return line.far + line.gain;
     }
-    view::depth_at(distance, line.gain) + line.gain
+    view::depth_at(nearest.distance, line.gain) + line.gain
 }
 
 // What was found, with its limit.
@@ -78,10 +64,9 @@ fn best_of(line: View, notes: NearestSoFar) -> Best
     requires { ViewSized line }
     ensures { (result.notes ≡ notes) × Limited line result }
 {
-    let least = notes.least;
     Best {
-        notes: notes,
-        past: past_of(line, least),
+        notes,
+        past: past_of(line, notes.least),
     }
 }
 
@@ -100,15 +85,15 @@ fn is_culled(reach: Aabb, pose: &[f64], triangles: &[u32], index: usize) -> bool
 pub fn reach_at(line: View, pose: &[f64], triangles: &[u32], index: usize) -> Reach
     requires { ViewSized line × (3 * index + 3 ≤ length triangles.now) }
     ensures { (ray : AnyRay) → Casts ray line
-        → result ≡ reach_of (exact_answer ray pose.now triangles.now index) }
+        → says_reach result ≡ reach_of (exact_answer ray pose.now triangles.now index) }
 {
     if !triangle_mesh::corners_inside(pose.len() / 3, triangles, index) {
-        return Reach::Refused(answer::OUT_OF_BOUNDS);
+        return Err(Refusal::OutOfBounds);
     }
     noted::reach_of(line, pose, triangles, index)
 }
 
-// The triangles of a leaf.
+// The triangles of a leaf; nothing where a place of it is none, a 5.
 fn note_leaf(
     line: View,
     reach: Aabb,
@@ -118,27 +103,23 @@ fn note_leaf(
     start: usize,
     end: usize,
     notes: NearestSoFar,
-) -> Noted
+) -> Option<NearestSoFar>
     requires { ViewSized line × (end ≤ length order.now) }
     ensures { NearestSoFarLeaf line reach pose.now triangles.now order.now start end notes result }
 {
     let count = triangles.len() / 3;
     let mut found = notes;
-    let mut place = start;
-    while place < end {
+    for place in start..end {
         let index = order[place];
         if index as usize >= count {
-            return Noted::Bad;
+            return None;
         }
-        if is_culled(reach, pose, triangles, index as usize) {
-            place += 1;
-        } else {
+        if !is_culled(reach, pose, triangles, index as usize) {
             let reached = reach_at(line, pose, triangles, index as usize);
             found = summary::note(found, index, reached);
-            place += 1;
         }
     }
-    Noted::NearestSoFar(found)
+    Some(found)
 }
 
 // A node whose box is met: a leaf's triangles are noted, a branch's children go on the stack.
@@ -162,27 +143,23 @@ fn open_node(
     ensures { OpensNode line reach pose.now triangles.now nodes node_boxes.now
         node_words.now order.now stack.old node top best result stack.new }
 {
-    let opened = nodes_read::node_at(triangles.len() / 3, node_words, node);
-    match opened {
+    match nodes_read::node_at(triangles.len() / 3, node_words, node) {
         Node::Leaf { start, end } => {
-            let before = best.notes;
-            let leaf = note_leaf(line, reach, pose, triangles, order, start, end, before);
-            let Noted::NearestSoFar(notes) = leaf else {
+            let leaf = note_leaf(line, reach, pose, triangles, order, start, end, best.notes);
+            let Some(notes) = leaf else {
                 return Step::Bad;
             };
-            return Step::Next {
-                top: top,
+            Step::Next {
+                top,
                 best: best_of(line, notes),
-            };
+            }
         }
         Node::Branch { left, right } => {
             let left_first = children::taken_first(line, nodes, node_boxes, left, right);
             nodes_read::push(node_words, stack, node, top, left_first);
-            return Step::NothingFound(top + 2);
+            Step::NothingFound(top + 2)
         }
-        Node::Bad => {
-            return Step::Bad;
-        }
+        Node::Bad => Step::Bad,
     }
 }
 
@@ -220,7 +197,7 @@ fn take_node(
     )
 }
 
-// The walk. The stack may hold anything afterwards.
+// The walk: what it found, or nothing where it met a 5. The stack may hold anything afterwards.
 pub fn find_nearest(
     line: View,
     reach: Aabb,
@@ -231,23 +208,21 @@ pub fn find_nearest(
     node_words: &[u32],
     order: &[u32],
     stack: &mut [u32],
-) -> Walked
+) -> Option<NearestSoFar>
     requires { ViewSized line × (WalkRoom (thirds (length triangles.now)) nodes node_boxes.now node_words.now order.now
         × (nodes < length stack.old)) }
     ensures { Walks line reach pose.now triangles.now nodes node_boxes.now
         node_words.now order.now result }
 {
     if nodes == 0 {
-        return Walked::Ended(summary::empty());
+        return Some(summary::empty());
     }
     stack[0] = 0;
     let mut best = best_of(line, summary::empty());
     let mut top: usize = 1;
-    let mut left = nodes;
-    while left > 0 {
+    for _taken in 0..nodes {
         if top == 0 {
-            let notes = best.notes;
-            return Walked::Ended(notes);
+            return Some(best.notes);
         }
         let step = take_node(
             line, reach, pose, triangles, nodes, node_boxes, node_words, order, stack, top, best,
@@ -255,7 +230,6 @@ pub fn find_nearest(
         match step {
             Step::NothingFound(higher) => {
                 top = higher;
-                left -= 1;
             }
             Step::Next {
                 top: higher,
@@ -263,18 +237,16 @@ pub fn find_nearest(
             } => {
                 top = higher;
                 best = nearer;
-                left -= 1;
             }
             Step::Bad => {
-                return Walked::Broken;
+                return None;
             }
         }
     }
     if top == 0 {
-        let notes = best.notes;
-        return Walked::Ended(notes);
+        return Some(best.notes);
     }
-    Walked::Broken
+    None
 }
 
 // The walk of a ray whose segment has the box reach. Its line is made here, so that it is not copied at a call.
@@ -288,7 +260,7 @@ pub fn nearest_along(
     node_words: &[u32],
     order: &[u32],
     stack: &mut [u32],
-) -> Walked
+) -> Option<NearestSoFar>
     requires { (((ray_admitted ray ≡ true) × (grid_admitted ray ≡ true)) × (reach ≡ certain_box (grid_line ray)))
         × (WalkRoom (thirds (length triangles.now)) nodes node_boxes.now node_words.now order.now
         × (nodes < length stack.old)) }

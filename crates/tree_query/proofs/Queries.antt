@@ -18,8 +18,7 @@ use Rattle.tree_walk.specs.Areas.{listed, Grown, GrownTo, WalkRoom}
 use Rattle.lists.proofs.RefusalLaws as Refusals
 use Rattle.tree_query.specs.Query.{count, refused, counts_admitted, tree_fits, walk_fits, query_tests, tests_pass, after_walk}
 use Rattle.tree_query.specs.Query.{query_of}
-use Rattle.tree_walk.specs.declared.step.Filled.{Filled}
-use Rattle.tree_walk.specs.declared.step.Filled.TheVariants.{Count, Broken}
+use Rattle.std.specs.Prelude.{Option, Some, None}
 
 pub counts_few : (n nodes : ℕ) → counts_admitted n nodes ≡ true → n ≤ 65536
 unfolding counts_admitted
@@ -90,17 +89,17 @@ module _ (box : Aabb) (n : ℕ) (t : Tree) (area : List ℕ) (stack : ℕ) where
         unfolding query_of
         walked = simp (v, a, f)
 
-        module _ (r : Filled) (exit : List ℕ) (w : listed [] r exit ≡ walk_of t n box) (g : GrownTo n area 0 r exit) where
-          pub query_broken : (zeros : List ℕ) → r ≡ Broken → length exit ≡ length area → zeros ≡ replicate (length exit) 0
+        module _ (r : Option ℕ) (exit : List ℕ) (w : listed [] r exit ≡ walk_of t n box) (g : GrownTo n area 0 r exit) where
+          pub query_broken : (zeros : List ℕ) → r ≡ None → length exit ≡ length area → zeros ≡ replicate (length exit) 0
               → record { answer = refused out_of_bounds; list = zeros } ≡ query_of box n t area stack
           unfolding after_walk
           query_broken zeros e l z =
-              let w' : broken ≡ walk_of t n box = subst (λ (x : Filled). listed [] x exit ≡ walk_of t n box) e w in
+              let w' : broken ≡ walk_of t n box = subst (λ (x : Option ℕ). listed [] x exit ≡ walk_of t n box) e w in
               ap (λ (x : List ℕ). record { answer = refused out_of_bounds; list = x }) (z ∙ ap (λ (k : ℕ). replicate k 0) l) ∙ ap
               (after_walk area) w' ∙ walked
 
-          pub query_listed : (k : ℕ) → r ≡ Count k → record { answer = count k; list = exit } ≡ query_of box n t area stack
+          pub query_listed : (k : ℕ) → r ≡ Some k → record { answer = count k; list = exit } ≡ query_of box n t area stack
           query_listed k e =
-              let w' : walking [] (take k exit) ≡ walk_of t n box = subst (λ (x : Filled). listed [] x exit ≡ walk_of t n box) e w in
-              let g' : Grown n area exit 0 k = subst (λ (x : Filled). GrownTo n area 0 x exit) e g in
+              let w' : walking [] (take k exit) ≡ walk_of t n box = subst (λ (x : Option ℕ). listed [] x exit ≡ walk_of t n box) e w in
+              let g' : Grown n area exit 0 k = subst (λ (x : Option ℕ). GrownTo n area 0 x exit) e g in
               sym (walked_list n k area exit g') ∙ ap (after_walk area) w' ∙ walked

@@ -12,22 +12,21 @@ use Rattle.lists.specs.Lists.{sorted, all_below}
 use Rattle.tree.specs.Layout.{Tree}
 use Rattle.tree_walk.specs.Walk.{walking, broken, ended, walk_of}
 use Rattle.tree_walk.specs.Areas.{listed, Grown, GrownTo}
-use Rattle.tree_walk.specs.declared.step.Filled.{Filled}
-use Rattle.tree_walk.specs.declared.step.Filled.TheVariants.{Count, Broken}
+use Rattle.std.specs.Prelude.{Option, Some, None}
 use Rattle.index_sort.specs.Sorting.{all_within}
 use Rattle.index_sort.proofs.Sorting.{every_with, every_sorted}
 
 module _ (t : Tree) (n : ℕ) (box : Aabb) where
   -- the list of the walk, sorted in its place
-  module _ (entry mid : List ℕ) (found : ℕ) (r : Filled) (g : ended t n box (listed [] r mid) ≡ walk_of t n box)
+  module _ (entry mid : List ℕ) (found : ℕ) (r : Option ℕ) (g : ended t n box (listed [] r mid) ≡ walk_of t n box)
       (h : GrownTo n entry 0 r mid) where
-    pub walk_broken : r ≡ Broken → broken ≡ walk_of t n box
+    pub walk_broken : r ≡ None → broken ≡ walk_of t n box
     unfolding ended
-    walk_broken e = subst (λ (x : Filled). ended t n box (listed [] x mid) ≡ walk_of t n box) e g
+    walk_broken e = subst (λ (x : Option ℕ). ended t n box (listed [] x mid) ≡ walk_of t n box) e g
 
-    module _ (e : r ≡ Count found) where
+    module _ (e : r ≡ Some found) where
       is_grown : Grown n entry mid 0 found
-      is_grown = subst (λ (x : Filled). GrownTo n entry 0 x mid) e h
+      is_grown = subst (λ (x : Option ℕ). GrownTo n entry 0 x mid) e h
 
       pub walk_inside : found ≤ length mid
       walk_inside = is_grown.inside
@@ -46,7 +45,7 @@ module _ (t : Tree) (n : ℕ) (box : Aabb) where
 
         pub walk_sorted : walking [] (take found (front ++ drop found mid)) ≡ walk_of t n box
         unfolding ended
-        walk_sorted = ap (walking []) front_first ∙ subst (λ (x : Filled). ended t n box (listed [] x mid) ≡ walk_of t n box) e g
+        walk_sorted = ap (walking []) front_first ∙ subst (λ (x : Option ℕ). ended t n box (listed [] x mid) ≡ walk_of t n box) e g
 
         pub walk_grown : Grown n entry (front ++ drop found mid) 0 found
         walk_grown =

@@ -1,13 +1,12 @@
 -- The query of a box: its refusals, its list and its answer. Definitions only. Assumes nothing.
-use Rattle.std.specs.Prelude.{ℕ, ◌+◌, ◌*◌, ◌≡◌, Bool, false, ◌&&◌, List, [], ◌∷◌, ◌++◌, leb, length, drop, replicate}
+use Rattle.std.specs.Prelude.{ℕ, ◌+◌, ◌*◌, ◌≡◌, Bool, false, ◌&&◌, List, [], ◌∷◌, ◌++◌, Result, Ok, Err, leb, length, drop, replicate}
 use Rattle.geometry.specs.Box.{valid_box}
 use Rattle.geometry.specs.declared.aabb.Aabb.{Aabb}
-use Rattle.casts.specs.Answer.{invalid_input, bad_shape, no_room, out_of_bounds}
+use Rattle.casts.specs.Answer.{invalid_input, bad_shape, no_room, out_of_bounds, number_of}
+use Rattle.casts.specs.declared.answer.Refusal.{Refusal}
 use Rattle.lists.specs.Refusals.{Test, refusing, unless_refused, all_pass}
 use Rattle.tree.specs.Layout.{Tree, all_long, tree_lengths}
 use Rattle.tree_walk.specs.Walk.{Walking, walking, broken, walk_of}
-use Rattle.tree_query.specs.declared.query.Listed.{Listed}
-use Rattle.tree_query.specs.declared.query.Listed.TheVariants.{Count, Refused}
 
 -- how many triangles are listed, or a refusal number
 pub data Listing : Type 0 where
@@ -15,9 +14,9 @@ pub data Listing : Type 0 where
   refused : ℕ → Listing
 
 -- what each case of the code's answer says
-abbrev pub says_listed : Listed → Listing
-says_listed (Count k) = count k
-says_listed (Refused number) = refused number
+abbrev pub says_listed : Result ℕ Refusal → Listing
+says_listed (Ok k) = count k
+says_listed (Err refusal) = refused (number_of refusal)
 
 -- the answer, and what the list's area holds afterwards
 pub record Queried : Type 0 where

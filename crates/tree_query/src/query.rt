@@ -3,18 +3,13 @@ ghost use Rattle.tree.specs.Layout.{tree_of};
 ghost use Rattle.tree_query.specs.Query.{says_listed, counts_admitted, tree_fits, walk_fits, Queries};
 
 use crate::walk;
-use casts::answer;
+use casts::answer::Refusal;
 use geometry::aabb::Aabb;
 use lists::fill;
 use tree::layout;
-use tree_walk::step::Filled;
 
-// How many triangles are listed, or a refusal with its number in document 01's table.
-#[derive(Clone, Copy)]
-pub enum Listed {
-    Count(usize),
-    Refused(u32),
-}
+// How many triangles are listed, or a refusal of document 01's table.
+pub type Listed = Result<usize, Refusal>;
 
 // Whether the counts of triangles and of nodes are admitted.
 pub fn counts_admitted(count: usize, nodes: usize) -> bool
@@ -90,10 +85,10 @@ pub fn query(
         list.old stack.old stack.new (record { answer = says_listed result; list = list.new }) }
 {
     if !bounds.is_valid() {
-        return Listed::Refused(answer::INVALID_INPUT);
+        return Err(Refusal::InvalidInput);
     }
     if !counts_admitted(count, nodes) {
-        return Listed::Refused(answer::BAD_SHAPE);
+        return Err(Refusal::BadShape);
     }
     if !walk_fits(
         count,
@@ -105,7 +100,7 @@ pub fn query(
         list.len(),
         stack.len(),
     ) {
-        return Listed::Refused(answer::NO_ROOM);
+        return Err(Refusal::NoRoom);
     }
     let walked = walk::walk(
         bounds,
@@ -118,9 +113,9 @@ pub fn query(
         list,
         stack,
     );
-    let Filled::Count(found) = walked else {
+    let Some(found) = walked else {
         fill::zero_words(list);
-        return Listed::Refused(answer::OUT_OF_BOUNDS);
+        return Err(Refusal::OutOfBounds);
     };
-    Listed::Count(found)
+    Ok(found)
 }

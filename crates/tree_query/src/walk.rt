@@ -7,7 +7,6 @@ use geometry::aabb::Aabb;
 use index_sort::sort;
 use tree::layout;
 use tree_walk::ahead;
-use tree_walk::step::Filled;
 
 // The touching triangles in the walk's own order, in the first places of the list, whose rest is as it was; the stack may hold anything
 // afterwards. A box far off the tree leaves at its first node, here, where the walk itself stays out of line.
@@ -21,7 +20,7 @@ pub fn gather(
     order: &[u32],
     list: &mut [u32],
     stack: &mut [u32],
-) -> Filled
+) -> Option<usize>
     requires { WalkRoom count (tree_of nodes node_boxes.now triangle_boxes.now node_words.now order.now) list.old
         stack.old }
     ensures { (ended (tree_of nodes node_boxes.now triangle_boxes.now node_words.now
@@ -30,10 +29,10 @@ pub fn gather(
         order.now) count bounds) × GrownTo count list.old 0 result list.new }
 {
     if nodes == 0 {
-        return Filled::Count(0);
+        return Some(0);
     }
     if !layout::box_at(node_boxes, 0).touches(bounds) {
-        return Filled::Count(0);
+        return Some(0);
     }
     ahead::gather_ahead(
         bounds,
@@ -59,14 +58,14 @@ pub fn walk(
     order: &[u32],
     list: &mut [u32],
     stack: &mut [u32],
-) -> Filled
+) -> Option<usize>
     requires { (count < 4294967296) × WalkRoom count
         (tree_of nodes node_boxes.now triangle_boxes.now node_words.now order.now) list.old stack.old }
     ensures { (listed [] result list.new
         ≡ walk_of (tree_of nodes node_boxes.now triangle_boxes.now node_words.now
         order.now) count bounds) × GrownTo count list.old 0 result list.new }
 {
-    let walked = ahead::gather_ahead(
+    let found = ahead::gather_ahead(
         bounds,
         count,
         nodes,
@@ -76,10 +75,7 @@ pub fn walk(
         order,
         list,
         stack,
-    );
-    let Filled::Count(found) = walked else {
-        return Filled::Broken;
-    };
+    )?;
     sort::sort_in(&mut list[..found], 0, count as u32, stack);
-    Filled::Count(found)
+    Some(found)
 }

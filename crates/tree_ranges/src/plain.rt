@@ -54,12 +54,7 @@ fn box_is_plain(b: Aabb) -> bool
 pub fn all_plain(boxes: &[f64], order: &[u32]) -> bool
     ensures { result ≡ plain_range boxes.now order.now }
 {
-    let mut i = 0;
-    while i < order.len() {
-        if !box_is_plain(ranges::box_of(boxes, order[i])) {
-            return false;
-        }
-        i += 1;
-    }
-    true
+    order
+        .iter()
+        .all(|triangle| box_is_plain(ranges::box_of(boxes, *triangle)))
 }

@@ -15,7 +15,7 @@ use Rattle.tree.specs.Layout.{Tree, word_at, box_at}
 use Rattle.tree_walk.specs.Walk.{Walking, walking, take_place, take_places}
 use Rattle.tree_walk.specs.Areas.{Room, Placed}
 use Rattle.tree_walk.specs.Opening.{as_number}
-use Rattle.tree_walk.specs.declared.step.Filled.TheVariants.{Count, Broken}
+use Rattle.std.specs.Prelude.{Some, None}
 use Rattle.tree_walk.proofs.Places.{place_outside, place_missed, place_listed, places_broken, after_places, drop_later}
 
 -- ---- a test as a number
@@ -170,7 +170,7 @@ module _ (n : ℕ) (box : Aabb) (order : List ℕ) (boxes : List Float) (list₀
           (rw (e, add-one place) at (p.gives t stack o b))
 
       pub few_breaks : place < end → n ≤ word_at order place → Placed (after_places n box order boxes list₀ found start end) n order boxes
-          list₀ found Broken list
+          list₀ found None list
       few_breaks h k =
           record {
             holds =
@@ -240,7 +240,7 @@ module _ (n : ℕ) (box : Aabb) (order : List ℕ) (boxes : List Float) (list₀
 
       -- the place behind those listed is put back
       pub few_ends : end ≤ place → (v : ℕ) → v ≡ word_at list₀ listed
-          → Placed (after_places n box order boxes list₀ found start end) n order boxes list₀ found (Count listed) (set list listed v)
+          → Placed (after_places n box order boxes list₀ found start end) n order boxes list₀ found (Some listed) (set list listed v)
       unfolding take_places range
       few_ends h v q =
           let e : end - place ≡ 0 = omega arith in

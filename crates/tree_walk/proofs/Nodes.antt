@@ -14,8 +14,7 @@ use Rattle.tree.specs.Layout.{Tree, box_at, kind_at, first_at, second_at}
 use Rattle.lists.proofs.JoinedTests.{and_first, and_second}
 use Rattle.tree_walk.specs.Walk.{Walking, walking, at_branch, at_node, take_node}
 use Rattle.tree_walk.specs.Areas.{on_stack, popped, Grown, Placed, Pushed, NodeRoom, NodeTaken}
-use Rattle.tree_walk.specs.declared.step.Filled.{Filled}
-use Rattle.tree_walk.specs.declared.step.Filled.TheVariants.{Count, Broken}
+use Rattle.std.specs.Prelude.{Option, Some, None}
 use Rattle.tree_walk.specs.declared.step.Stepped.{Stepped}
 use Rattle.tree_walk.specs.declared.step.Stepped.TheVariants.{Stopped}
 use Rattle.tree_walk.proofs.Places.{after_leaf, grown_none}
@@ -105,21 +104,21 @@ module _ (n : ℕ) (box : Aabb) (t : Tree) (list : List ℕ) (found : ℕ) (stac
           kept = tt;
         }
 
-    module _ (e : kind ≡ 0) (r : Filled) (exit : List ℕ)
+    module _ (e : kind ≡ 0) (r : Option ℕ) (exit : List ℕ)
         (d : Placed (after_leaf n box t.order t.triangle_boxes list found first second) n t.order t.triangle_boxes list found r
         exit) where
-      leaf_is : (x : Filled) → r ≡ x → Placed (after_leaf n box t.order t.triangle_boxes list found first second) n t.order
+      leaf_is : (x : Option ℕ) → r ≡ x → Placed (after_leaf n box t.order t.triangle_boxes list found first second) n t.order
           t.triangle_boxes list found x exit
-      leaf_is x q = subst (λ (y : Filled). Placed (after_leaf n box t.order t.triangle_boxes list found first second) n t.order
+      leaf_is x q = subst (λ (y : Option ℕ). Placed (after_leaf n box t.order t.triangle_boxes list found first second) n t.order
           t.triangle_boxes list found y exit) q d
 
-      pub leaf_broken : r ≡ Broken → NodeTaken n box t list found stack node top Stopped exit stack
-      leaf_broken q = record { holds = (leaf_is Broken q).holds t (on_stack stack top) refl refl ∙ is_leaf_lem e; kept = tt }
+      pub leaf_broken : r ≡ None → NodeTaken n box t list found stack node top Stopped exit stack
+      leaf_broken q = record { holds = (leaf_is None q).holds t (on_stack stack top) refl refl ∙ is_leaf_lem e; kept = tt }
 
-      pub leaf_listed : (listed : ℕ) → r ≡ Count listed → (s : Stepped) → s ≡ popped stack top listed → NodeTaken n box t list found stack
+      pub leaf_listed : (listed : ℕ) → r ≡ Some listed → (s : Stepped) → s ≡ popped stack top listed → NodeTaken n box t list found stack
           node top s exit stack
-      leaf_listed listed q = listed_popped listed exit ((leaf_is (Count listed) q).holds t (on_stack stack top) refl refl ∙ is_leaf_lem e)
-          (leaf_is (Count listed) q).grown
+      leaf_listed listed q = listed_popped listed exit ((leaf_is (Some listed) q).holds t (on_stack stack top) refl refl ∙ is_leaf_lem e)
+          (leaf_is (Some listed) q).grown
 
     pub branch_taken : kind ≡ 1 → (r : Stepped) (exit : List ℕ) → Pushed t.node_count node first second stack top found r exit → NodeTaken
         n box t list found stack node top r list exit

@@ -15,8 +15,7 @@ use Rattle.tree.specs.Layout.{Tree, box_at, kind_at, first_at, second_at}
 use Rattle.tree_walk.specs.Walk.{Walking, walking, broken, times, at_leaf, at_branch, at_node, take_node, start, ended, walk_of}
 use Rattle.tree_walk.specs.Areas.{on_stack, Grown, Placed, WalkRoom}
 use Rattle.tree_walk.specs.Opening.{onward, due, open_next, Opens, Branched, OpenRoom, NodeOpened}
-use Rattle.tree_walk.specs.declared.step.Filled.{Filled}
-use Rattle.tree_walk.specs.declared.step.Filled.TheVariants.{Count, Broken}
+use Rattle.std.specs.Prelude.{Option, Some, None}
 use Rattle.tree_walk.specs.declared.ahead.Opened.{Opened}
 use Rattle.tree_walk.specs.declared.ahead.Opened.TheVariants.{Next, Ended, Stopped}
 use Rattle.tree_walk.proofs.Places.{after_leaf, grown_none, grown_twice}
@@ -98,19 +97,19 @@ module _ (n : ℕ) (box : Aabb) (t : Tree) (list : List ℕ) (found : ℕ) (stac
     pub open_unknown : (kind ≡ 0 → ⊥) → (kind ≡ 1 → ⊥) → NodeOpened n t box list found stack node top spent Stopped list stack
     open_unknown e f = stops broken list refl (is_unknown e f)
 
-    module _ (e : kind ≡ 0) (r : Filled) (exit : List ℕ)
+    module _ (e : kind ≡ 0) (r : Option ℕ) (exit : List ℕ)
         (d : Placed (after_leaf n box t.order t.triangle_boxes list found first second) n t.order t.triangle_boxes list found r
         exit) where
-      leaf_is : (x : Filled) → r ≡ x → Placed (after_leaf n box t.order t.triangle_boxes list found first second) n t.order
+      leaf_is : (x : Option ℕ) → r ≡ x → Placed (after_leaf n box t.order t.triangle_boxes list found first second) n t.order
           t.triangle_boxes list found x exit
-      leaf_is x q = subst (λ (y : Filled). Placed (after_leaf n box t.order t.triangle_boxes list found first second) n t.order
+      leaf_is x q = subst (λ (y : Option ℕ). Placed (after_leaf n box t.order t.triangle_boxes list found first second) n t.order
           t.triangle_boxes list found y exit) q d
 
-      pub open_leaf_broken : r ≡ Broken → NodeOpened n t box list found stack node top spent Stopped exit stack
+      pub open_leaf_broken : r ≡ None → NodeOpened n t box list found stack node top spent Stopped exit stack
       open_leaf_broken q = stops (at_leaf t n box first second standing (take found list)) exit
-          ((leaf_is Broken q).holds t standing refl refl) (is_leaf_lem e)
+          ((leaf_is None q).holds t standing refl refl) (is_leaf_lem e)
 
-      pub open_leaf_listed : (listed : ℕ) → r ≡ Count listed → (s : Opened) → s ≡ open_next stack top listed spent
+      pub open_leaf_listed : (listed : ℕ) → r ≡ Some listed → (s : Opened) → s ≡ open_next stack top listed spent
           → NodeOpened n t box list found stack node top spent s exit stack
       unfolding onward
       open_leaf_listed listed q s p =
@@ -118,11 +117,11 @@ module _ (n : ℕ) (box : Aabb) (t : Tree) (list : List ℕ) (found : ℕ) (stac
           let all : due t.node_count spent top ≤ due t.node_count spent top = omega arith in
           subst (λ (x : Opened). NodeOpened n t box list found stack node top spent x exit stack) (sym p)
           (record {
-            holds = next_onward t n box stack exit top listed spent ∙ ap after ((leaf_is (Count listed) q).holds t standing refl refl)
+            holds = next_onward t n box stack exit top listed spent ∙ ap after ((leaf_is (Some listed) q).holds t standing refl refl)
                 ∙ is_leaf_lem e;
             stands = next_stands t.node_count t.node_boxes box (due t.node_count spent top) stack top listed spent
                 room.opens.within tall rest_below rest_touching all;
-            grown = next_grown n found list exit stack top listed spent (leaf_is (Count listed) q).grown;
+            grown = next_grown n found list exit stack top listed spent (leaf_is (Some listed) q).grown;
           })
 
     pub open_branch_taken : kind ≡ 1 → (r : Opened) (exit : List ℕ)

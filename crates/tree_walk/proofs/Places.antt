@@ -16,8 +16,7 @@ use Rattle.lists.specs.Lists.{range, all_below}
 use Rattle.tree.specs.Layout.{Tree, word_at, box_at}
 use Rattle.tree_walk.specs.Walk.{Walking, walking, broken, take_place, take_places, at_leaf}
 use Rattle.tree_walk.specs.Areas.{listed, Grown, Room, Placed}
-use Rattle.tree_walk.specs.declared.step.Filled.{Filled}
-use Rattle.tree_walk.specs.declared.step.Filled.TheVariants.{Count, Broken}
+use Rattle.std.specs.Prelude.{Option, Some, None}
 use Rattle.lists.proofs.EveryLaws.{every_snoc}
 
 -- a list that has not grown, and one that has grown twice
@@ -40,7 +39,7 @@ module _ (n : ℕ) (box : Aabb) (order : List ℕ) (boxes : List Float) (list : 
   abbrev pub after_place : Tree → List ℕ → Walking
   after_place t stack = take_place t n box (walking stack (take found list)) place
 
-  pub place_outside : n ≤ word_at order place → Placed after_place n order boxes list found Broken list
+  pub place_outside : n ≤ word_at order place → Placed after_place n order boxes list found None list
   unfolding take_place
   place_outside h =
       record {
@@ -50,7 +49,7 @@ module _ (n : ℕ) (box : Aabb) (order : List ℕ) (boxes : List Float) (list : 
       }
 
   pub place_missed : Room n order boxes list found → word_at order place < n → touches (box_at boxes (word_at order place)) box ≡ false
-      → Placed after_place n order boxes list found (Count found) list
+      → Placed after_place n order boxes list found (Some found) list
   unfolding take_place
   place_missed r h m =
       record {
@@ -61,7 +60,7 @@ module _ (n : ℕ) (box : Aabb) (order : List ℕ) (boxes : List Float) (list : 
 
   pub place_full : Room n order boxes list found → word_at order place < n → touches (box_at boxes (word_at order place)) box ≡ true → n ≤
       found
-      → Placed after_place n order boxes list found Broken list
+      → Placed after_place n order boxes list found None list
   unfolding take_place
   place_full r h m f =
       record {
@@ -74,7 +73,7 @@ module _ (n : ℕ) (box : Aabb) (order : List ℕ) (boxes : List Float) (list : 
   pub place_listed : Room n order boxes list found → word_at order place < n → touches (box_at boxes (word_at order place)) box ≡ true
       → found
       < n
-      → Placed after_place n order boxes list found (Count (found + 1)) (set list found (word_at order place))
+      → Placed after_place n order boxes list found (Some (found + 1)) (set list found (word_at order place))
   unfolding take_place
   place_listed r h m f =
       let k : found < length list = omega (arith, r.lent) in
@@ -144,12 +143,12 @@ module _ (n : ℕ) (box : Aabb) (order : List ℕ) (boxes : List Float) (list₀
         rw (add-one place)
         (rw (e, add-one place) at (p.gives t stack o b))
 
-    pub placing_goes : place < end → (r : Filled) (next : ℕ) (exit : List ℕ) → Placed (after_place n box order boxes list listed place) n
-        order boxes list listed r exit → r ≡ Count next
+    pub placing_goes : place < end → (r : Option ℕ) (next : ℕ) (exit : List ℕ) → Placed (after_place n box order boxes list listed place) n
+        order boxes list listed r exit → r ≡ Some next
         → length exit ≡ length list → Placing exit next (place + 1)
     placing_goes h r next exit d e l =
-        let d' : Placed (after_place n box order boxes list listed place) n order boxes list listed (Count next) exit =
-        subst (λ (x : Filled). Placed (after_place n box order boxes list listed place) n order boxes list listed x exit) e d in
+        let d' : Placed (after_place n box order boxes list listed place) n order boxes list listed (Some next) exit =
+        subst (λ (x : Option ℕ). Placed (after_place n box order boxes list listed place) n order boxes list listed x exit) e d in
         record {
           within = omega arith;
           long = l ∙ p.long;
@@ -160,12 +159,12 @@ module _ (n : ℕ) (box : Aabb) (order : List ℕ) (boxes : List Float) (list₀
           grown = grown_twice n found listed next list₀ list exit p.grown d'.grown;
         }
 
-    pub placing_breaks : place < end → (r : Filled) (exit : List ℕ) → Placed (after_place n box order boxes list listed place) n order boxes
-        list listed r exit → r ≡ Broken
-        → Placed after_places n order boxes list₀ found Broken exit
+    pub placing_breaks : place < end → (r : Option ℕ) (exit : List ℕ) → Placed (after_place n box order boxes list listed place) n order
+        boxes list listed r exit → r ≡ None
+        → Placed after_places n order boxes list₀ found None exit
     placing_breaks h r exit d e =
-        let d' : Placed (after_place n box order boxes list listed place) n order boxes list listed Broken exit =
-        subst (λ (x : Filled). Placed (after_place n box order boxes list listed place) n order boxes list listed x exit) e d in
+        let d' : Placed (after_place n box order boxes list listed place) n order boxes list listed None exit =
+        subst (λ (x : Option ℕ). Placed (after_place n box order boxes list listed place) n order boxes list listed x exit) e d in
         record {
           holds =
               λ (t : Tree) (stack : List ℕ) (o : t.order ≡ order) (b : t.triangle_boxes ≡ boxes).
@@ -175,7 +174,7 @@ module _ (n : ℕ) (box : Aabb) (order : List ℕ) (boxes : List Float) (list₀
           grown = tt;
         }
 
-    pub placing_ends : end ≤ place → Placed after_places n order boxes list₀ found (Count listed) list
+    pub placing_ends : end ≤ place → Placed after_places n order boxes list₀ found (Some listed) list
     unfolding take_places range
     placing_ends h =
         let e : end - place ≡ 0 = omega arith in
@@ -189,7 +188,7 @@ module _ (n : ℕ) (box : Aabb) (order : List ℕ) (boxes : List Float) (list : 
   abbrev pub after_leaf : Tree → List ℕ → Walking
   after_leaf t stack = at_leaf t n box first second stack (take found list)
 
-  pub leaf_outside : (start size : ℕ) → start ≡ first → size ≡ second → n < start + size → Placed after_leaf n order boxes list found Broken
+  pub leaf_outside : (start size : ℕ) → start ≡ first → size ≡ second → n < start + size → Placed after_leaf n order boxes list found None
       list
   unfolding at_leaf
   leaf_outside start size e f h =
@@ -200,7 +199,7 @@ module _ (n : ℕ) (box : Aabb) (order : List ℕ) (boxes : List Float) (list : 
         grown = tt;
       }
 
-  pub leaf_taken : (start size : ℕ) → start ≡ first → size ≡ second → start + size ≤ n → (r : Filled) (exit : List ℕ)
+  pub leaf_taken : (start size : ℕ) → start ≡ first → size ≡ second → start + size ≤ n → (r : Option ℕ) (exit : List ℕ)
       → Placed (after_places n box order boxes list found start (start + size)) n order boxes list found r exit → Placed after_leaf n order
       boxes list found r exit
   unfolding at_leaf

@@ -5,15 +5,14 @@ use Rattle.lists.specs.Lists.{all_below}
 use Rattle.tree.specs.Layout.{Tree, word_at}
 use Rattle.geometry.specs.declared.aabb.Aabb.{Aabb}
 use Rattle.tree_walk.specs.Walk.{Walking, walking, broken, at_branch, take_node}
-use Rattle.tree_walk.specs.declared.step.Filled.{Filled}
-use Rattle.tree_walk.specs.declared.step.Filled.TheVariants.{Count, Broken}
+use Rattle.std.specs.Prelude.{Option, Some, None}
 use Rattle.tree_walk.specs.declared.step.Stepped.{Stepped}
 use Rattle.tree_walk.specs.declared.step.Stepped.TheVariants.{Next, Ended, Stopped}
 
 -- the triangles listed so far stand in the first places of the list's area
-abbrev pub listed : List ℕ → Filled → List ℕ → Walking
-listed stack (Count k) area = walking stack (take k area)
-listed stack Broken area = broken
+abbrev pub listed : List ℕ → Option ℕ → List ℕ → Walking
+listed stack (Some k) area = walking stack (take k area)
+listed stack None area = broken
 
 -- a list below n that has grown in its area, whose rest is as it was
 pub record Grown (n : ℕ) (entry exit : List ℕ) (from to : ℕ) : Type 0 where
@@ -22,9 +21,9 @@ pub record Grown (n : ℕ) (entry exit : List ℕ) (from to : ℕ) : Type 0 wher
   pub rest : drop to exit ≡ drop to entry
   pub below : all_below n (take to exit) ≡ true
 
-abbrev pub GrownTo : ℕ → List ℕ → ℕ → Filled → List ℕ → Type 0
-GrownTo n entry from (Count to) exit = Grown n entry exit from to
-GrownTo n entry from Broken exit = Unit
+abbrev pub GrownTo : ℕ → List ℕ → ℕ → Option ℕ → List ℕ → Type 0
+GrownTo n entry from (Some to) exit = Grown n entry exit from to
+GrownTo n entry from None exit = Unit
 
 -- what taking order places asks of the areas
 pub record Room (n : ℕ) (order : List ℕ) (boxes : List Float) (list : List ℕ) (found : ℕ) : Type 0 where
@@ -35,7 +34,7 @@ pub record Room (n : ℕ) (order : List ℕ) (boxes : List Float) (list : List �
   pub below : all_below n (take found list) ≡ true
 
 -- and what it promises, whatever else the tree holds and whatever is on the stack
-pub record Placed (after : Tree → List ℕ → Walking) (n : ℕ) (order : List ℕ) (boxes : List Float) (entry : List ℕ) (from : ℕ) (r : Filled)
+pub record Placed (after : Tree → List ℕ → Walking) (n : ℕ) (order : List ℕ) (boxes : List Float) (entry : List ℕ) (from : ℕ) (r : Option ℕ)
     (exit : List ℕ) : Type 0 where
   pub holds : (t : Tree) (stack : List ℕ) → t.order ≡ order → t.triangle_boxes ≡ boxes → listed stack r exit ≡ after t stack
   pub grown : GrownTo n entry from r exit

@@ -4,7 +4,6 @@ ghost use Rattle.tree_walk.specs.Walk.{ended, walk_of};
 ghost use Rattle.tree_walk.specs.Areas.{listed, GrownTo, WalkRoom};
 ghost use Rattle.tree_walk.specs.Opening.{open_next, Opens, Waiting, Tested, Branched, OpenRoom, NodeOpened};
 
-use crate::step::Filled;
 use crate::{few, step};
 use geometry::aabb::Aabb;
 use tree::layout;
@@ -35,8 +34,8 @@ fn next_open(stack: &[u32], top: usize, found: usize, spent: usize) -> Opened
     Opened::Next {
         node: stack[below] as usize,
         top: below,
-        found: found,
-        spent: spent,
+        found,
+        spent,
     }
 }
 
@@ -65,23 +64,23 @@ fn open_children(
             return Opened::Next {
                 node: left,
                 top: top + 1,
-                found: found,
-                spent: spent,
+                found,
+                spent,
             };
         }
         return Opened::Next {
             node: left,
-            top: top,
-            found: found,
-            spent: spent,
+            top,
+            found,
+            spent,
         };
     }
     if second {
         return Opened::Next {
             node: right as usize,
-            top: top,
-            found: found,
-            spent: spent,
+            top,
+            found,
+            spent,
         };
     }
     next_open(stack, top, found, spent)
@@ -162,7 +161,7 @@ fn open_node(
             list,
             found,
         );
-        let Filled::Count(listed) = leaf else {
+        let Some(listed) = leaf else {
             return Opened::Stopped;
         };
         return next_open(stack, top, listed, spent);
@@ -178,6 +177,7 @@ fn open_node(
 // The touching triangles in the walk's own order, in the first places of the list, whose rest is as it was; the stack may hold anything
 // afterwards. The children of a branch are tested when it is opened: one that does not touch, which the walk would take from the stack and
 // drop, does not go there. That no limit is asked makes this the same: nobody is told how many nodes were taken when a 5 was met.
+// The tree's areas come one by one, here and wherever a tree is walked: not yet one struct.
 pub fn gather_ahead(
     bounds: Aabb,
     count: usize,
@@ -188,7 +188,7 @@ pub fn gather_ahead(
     order: &[u32],
     list: &mut [u32],
     stack: &mut [u32],
-) -> Filled
+) -> Option<usize>
     requires { WalkRoom count (tree_of nodes node_boxes.now triangle_boxes.now node_words.now order.now) list.old
         stack.old }
     ensures { (ended (tree_of nodes node_boxes.now triangle_boxes.now node_words.now
@@ -197,10 +197,10 @@ pub fn gather_ahead(
         order.now) count bounds) × GrownTo count list.old 0 result list.new }
 {
     if nodes == 0 {
-        return Filled::Count(0);
+        return Some(0);
     }
     if !layout::box_at(node_boxes, 0).touches(bounds) {
-        return Filled::Count(0);
+        return Some(0);
     }
     let mut next: usize = 0;
     let mut height: usize = 0;
@@ -235,12 +235,12 @@ pub fn gather_ahead(
                 counted = spent;
             }
             Opened::Ended(found) => {
-                return Filled::Count(found);
+                return Some(found);
             }
             Opened::Stopped => {
-                return Filled::Broken;
+                return None;
             }
         }
     }
-    Filled::Broken
+    None
 }

@@ -7,7 +7,6 @@ ghost use Rattle.tree_walk.specs.Walk.{walking, take_places, at_leaf};
 ghost use Rattle.tree_walk.specs.Areas.{Room, Placed};
 
 use crate::step;
-use crate::step::Filled;
 use geometry::aabb::Aabb;
 use tree::layout;
 
@@ -32,7 +31,7 @@ fn take_few(
     end: usize,
     list: &mut [u32],
     found: usize,
-) -> Filled
+) -> Option<usize>
     requires { (start ≤ end) × ((end ≤ count) × ((end ≤ start + 4) × ((found + 5 ≤ count)
         × Room count order.now triangle_boxes.now list.old found))) }
     ensures { Placed (λ t stack. take_places t count bounds (walking stack (take found list.old))
@@ -47,19 +46,17 @@ fn take_few(
         list[found + 4],
     ];
     let mut listed = found;
-    let mut place = start;
-    while place < end {
+    for place in start..end {
         let triangle = order[place];
         let index = triangle as usize;
         if index >= count {
-            return Filled::Broken;
+            return None;
         }
         list[listed] = triangle;
         listed += touch_number(layout::box_at(triangle_boxes, index), bounds);
-        place += 1;
     }
     list[listed] = before[listed - found];
-    Filled::Count(listed)
+    Some(listed)
 }
 
 // A leaf as `step::at_leaf` takes it: the few triangles of a built tree's leaf without a jump for each. A mesh of some twelve triangles is
@@ -73,7 +70,7 @@ pub fn at_leaf(
     node: usize,
     list: &mut [u32],
     found: usize,
-) -> Filled
+) -> Option<usize>
     requires { (3 * node + 3 ≤ length node_words.now) × Room count order.now triangle_boxes.now list.old found }
     ensures { Placed (λ t stack. at_leaf t count bounds (first_at node_words.now node)
         (second_at node_words.now node) stack (take found list.old)) count order.now
@@ -82,7 +79,7 @@ pub fn at_leaf(
     let start = layout::word_at(node_words, 3 * node + 1);
     let size = layout::word_at(node_words, 3 * node + 2);
     if start + size > count {
-        return Filled::Broken;
+        return None;
     }
     if size <= 4 {
         if found + 16 <= count {

@@ -7,13 +7,6 @@ ghost use Rattle.tree_walk.specs.Areas.{on_stack, popped, Room, Placed, Pushed, 
 use geometry::aabb::Aabb;
 use tree::layout;
 
-// How many places of an area are filled, or that the walk met a 5.
-#[derive(Clone, Copy)]
-pub enum Filled {
-    Count(usize),
-    Broken,
-}
-
 // The node that is taken next, how many stand on the stack below it and how many triangles in the list; or how many triangles the whole
 // walk has listed, or that it met a 5.
 #[derive(Clone, Copy)]
@@ -36,7 +29,7 @@ fn take_place(
     place: usize,
     list: &mut [u32],
     found: usize,
-) -> Filled
+) -> Option<usize>
     requires { (place < count) × Room count order.now triangle_boxes.now list.old found }
     ensures { Placed (λ t stack. take_place t count bounds (walking stack (take found list.old)) place) count
         order.now triangle_boxes.now list.old found result list.new }
@@ -44,16 +37,16 @@ fn take_place(
     let triangle = order[place];
     let index = triangle as usize;
     if index >= count {
-        return Filled::Broken;
+        return None;
     }
     if !layout::box_at(triangle_boxes, index).touches(bounds) {
-        return Filled::Count(found);
+        return Some(found);
     }
     if found >= count {
-        return Filled::Broken;
+        return None;
     }
     list[found] = triangle;
-    Filled::Count(found + 1)
+    Some(found + 1)
 }
 
 // The places of the order from start to below end.
@@ -66,23 +59,17 @@ pub fn take_places(
     end: usize,
     list: &mut [u32],
     found: usize,
-) -> Filled
+) -> Option<usize>
     requires { (start ≤ end) × ((end ≤ count) × Room count order.now triangle_boxes.now list.old found) }
     ensures { Placed (λ t stack. take_places t count bounds (walking stack (take found list.old))
         (range start (end - start))) count order.now triangle_boxes.now list.old found result
         list.new }
 {
     let mut listed = found;
-    let mut place = start;
-    while place < end {
-        let taken = take_place(bounds, count, triangle_boxes, order, place, list, listed);
-        let Filled::Count(next) = taken else {
-            return Filled::Broken;
-        };
-        listed = next;
-        place += 1;
+    for place in start..end {
+        listed = take_place(bounds, count, triangle_boxes, order, place, list, listed)?;
     }
-    Filled::Count(listed)
+    Some(listed)
 }
 
 // A leaf: its places of the order, which must end within the triangles.
@@ -95,7 +82,7 @@ fn at_leaf(
     node: usize,
     list: &mut [u32],
     found: usize,
-) -> Filled
+) -> Option<usize>
     requires { (3 * node + 3 ≤ length node_words.now) × Room count order.now triangle_boxes.now list.old found }
     ensures { Placed (λ t stack. at_leaf t count bounds (first_at node_words.now node)
         (second_at node_words.now node) stack (take found list.old)) count order.now
@@ -104,7 +91,7 @@ fn at_leaf(
     let start = layout::word_at(node_words, 3 * node + 1);
     let size = layout::word_at(node_words, 3 * node + 2);
     if start + size > count {
-        return Filled::Broken;
+        return None;
     }
     take_places(
         bounds,
@@ -128,8 +115,9 @@ pub fn child_fits(nodes: usize, node: usize, child: usize) -> bool
     false
 }
 
-// The next node taken from the stack; with none there the walk has ended.
-fn pop(stack: &[u32], top: usize, found: usize) -> Stepped
+// The next node taken from the stack; with none there the walk has ended. It is compiled into each of its users.
+#[inline(always)]
+pub fn pop(stack: &[u32], top: usize, found: usize) -> Stepped
     requires { top ≤ length stack.now }
     ensures { result ≡ popped stack.now top found }
 {
@@ -140,7 +128,7 @@ fn pop(stack: &[u32], top: usize, found: usize) -> Stepped
     Stepped::Next {
         node: stack[below] as usize,
         top: below,
-        found: found,
+        found,
     }
 }
 
@@ -170,7 +158,7 @@ fn at_branch(
     Stepped::Next {
         node: left,
         top: top + 1,
-        found: found,
+        found,
     }
 }
 
@@ -210,7 +198,7 @@ pub fn take_node(
             list,
             found,
         );
-        let Filled::Count(listed) = leaf else {
+        let Some(listed) = leaf else {
             return Stepped::Stopped;
         };
         return pop(stack, top, listed);

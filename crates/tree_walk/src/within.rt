@@ -80,7 +80,7 @@ pub fn gather_within(
             }
             Stepped::Ended(found) => {
                 return Limited::Count {
-                    found: found,
+                    found,
                     spent: taken + 1,
                 };
             }

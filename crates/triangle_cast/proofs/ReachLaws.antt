@@ -7,20 +7,13 @@ use lib.Ieee.{Float, nan, lt, le, is_nan}
 use Rattle.vectors.specs.Numbers.{◌+ᶠ◌, ◌*ᶠ◌, ◌/ᶠ◌, zeroᶠ, oneᶠ}
 use Rattle.vectors.specs.Vector.{sub_of, cross_of, dot_of, checked_dot, normalizable, try_normalize}
 use Rattle.vectors.specs.declared.vec3.Vec3.{Vec3}
-use Rattle.vectors.specs.declared.vec3.Checked.{Checked}
-use Rattle.vectors.specs.declared.vec3.Checked.TheVariants.{Value, Overflow}
-use Rattle.vectors.specs.declared.vec3.Normalized.TheVariants.{Unit as UnitOf, Degenerate}
+use Rattle.std.specs.Prelude.{Option, Some, None}
 use Rattle.geometry.specs.declared.ray.Ray.{Ray}
 use Rattle.casts.specs.Answer.{Answer, hit, none, refused, with_value, with_normal, overflow, no_normal}
 use Rattle.casts.specs.Surface.{facing, off_segment}
-use Rattle.casts.specs.Reach.{reach_of}
+use Rattle.casts.specs.Reach.{Reach, At, Miss, Refused, reach_of}
 use Rattle.triangle_cast.specs.Triangle.{flat, triangle_normal, has_normal, triangle_above, triangle_at, triangle_of}
-use Rattle.triangle_cast.specs.Crossing.{crossing_answer, distance_within, settled_answer}
-use Rattle.triangle_cast.specs.declared.parts.Crossing.TheVariants.{Within}
-use Rattle.triangle_cast.specs.declared.parts.Distance.{Distance}
-use Rattle.triangle_cast.specs.declared.parts.Distance.TheVariants.{At as AtDistance, Miss as NoDistance}
-use Rattle.casts.specs.declared.answer.Reach.{Reach}
-use Rattle.casts.specs.declared.answer.Reach.TheVariants.{At, Miss, Refused}
+use Rattle.triangle_cast.specs.Crossing.{within, within_answer, distance_within, settled_answer}
 
 pub reach_by_normal : (r : Ray) (a b : Vec3) (distance : Float) → reach_of (triangle_normal r a b distance) ≡ cond (has_normal a b)
     (At distance) (Refused no_normal)
@@ -28,7 +21,7 @@ unfolding reach_of triangle_normal has_normal try_normalize
 reach_by_normal r a b distance = go (normalizable (cross_of a b)) _
   where
     go : (p : Bool) (normal : Vec3)
-        → reach_of (with_normal (cond p (UnitOf normal) Degenerate) no_normal
+        → reach_of (with_normal (cond p (Some normal) None) no_normal
         (λ (n : Vec3). hit (facing n (dot_of r.direction n)) distance))
         ≡ cond p (At distance) (Refused no_normal)
     go true normal = refl
@@ -39,13 +32,13 @@ none_either_way true = refl
 none_either_way false = refl
 
 -- ---- what is left once the distance is known
-is_distance : Distance → Bool
-is_distance (AtDistance d) = true
-is_distance NoDistance = false
+is_distance : Option Float → Bool
+is_distance (Some d) = true
+is_distance None = false
 
-distance_in : Distance → Float
-distance_in (AtDistance d) = d
-distance_in NoDistance = nan
+distance_in : Option Float → Float
+distance_in (Some d) = d
+distance_in None = nan
 
 module _ (r : Ray) (offset a b : Vec3) (determinant inverse u : Float) where
   abbrev v_part : Float
@@ -58,26 +51,26 @@ module _ (r : Ray) (offset a b : Vec3) (determinant inverse u : Float) where
   abbrev at : Float → Answer
   at d = cond (is_nan d) (refused overflow) (triangle_normal r a b d)
 
-  pub from_distance : (d : Float) → distance_within r offset a b inverse u ≡ AtDistance d
-      → settled_answer r determinant a b d ≡ crossing_answer r (Within offset a b determinant inverse u)
+  pub from_distance : (d : Float) → distance_within r offset a b inverse u ≡ Some d
+      → settled_answer r determinant a b d ≡ within_answer r (within offset a b determinant inverse u)
   unfolding distance_within triangle_above is_distance distance_in
   from_distance d h = ap (cond (flat determinant a b) none) (go (lt v_part zeroᶠ) (lt oneᶠ (u +ᶠ v_part)) (off_segment r along) along h)
     where
       go : (p q s : Bool) (e : Float)
-          → cond p NoDistance (cond q NoDistance (cond s NoDistance (AtDistance e))) ≡ AtDistance d
+          → cond p None (cond q None (cond s None (Some e))) ≡ Some d
           → at d ≡ cond p none (cond q none (cond s none (at e)))
       go true q s e h = absurd (true≢false (sym (ap is_distance h)))
       go false true s e h = absurd (true≢false (sym (ap is_distance h)))
       go false false true e h = absurd (true≢false (sym (ap is_distance h)))
       go false false false e h = ap at (sym (ap distance_in h))
 
-  pub no_distance : distance_within r offset a b inverse u ≡ NoDistance → none ≡ crossing_answer r (Within offset a b determinant inverse u)
+  pub no_distance : distance_within r offset a b inverse u ≡ None → none ≡ within_answer r (within offset a b determinant inverse u)
   unfolding distance_within triangle_above is_distance
   no_distance h = sym (ap (cond (flat determinant a b) none) (sym (go (lt v_part zeroᶠ) (lt oneᶠ (u +ᶠ v_part)) (off_segment r along) along
       h)) ∙ none_either_way (flat determinant a b))
     where
       go : (p q s : Bool) (e : Float)
-          → cond p NoDistance (cond q NoDistance (cond s NoDistance (AtDistance e))) ≡ NoDistance
+          → cond p None (cond q None (cond s None (Some e))) ≡ None
           → none ≡ cond p none (cond q none (cond s none (at e)))
       go true q s e h = refl
       go false true s e h = refl
@@ -142,10 +135,10 @@ told_cond : (r : Ray) (a b : Vec3) (test : Bool) (x y : Answer) → Told r a b x
 told_cond r a b true x y p q = p
 told_cond r a b false x y p q = q
 
-told_value : (r : Ray) (a b : Vec3) (c : Checked) (next : Float → Answer) → ((x : Float) → Told r a b (next x)) → Told r a b
+told_value : (r : Ray) (a b : Vec3) (c : Option Float) (next : Float → Answer) → ((x : Float) → Told r a b (next x)) → Told r a b
     (with_value c next)
-told_value r a b (Value x) next p = p x
-told_value r a b Overflow next p = told_refused r a b _
+told_value r a b (Some x) next p = p x
+told_value r a b None next p = told_refused r a b _
 
 told_above : (r : Ray) (offset a b : Vec3) (inverse u : Float) → Told r a b (triangle_above r offset a b inverse u)
 unfolding triangle_above

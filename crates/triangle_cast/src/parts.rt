@@ -1,24 +1,16 @@
+use casts::answer::Refusal;
 use vectors::vec3::Vec3;
 
-// What the tests of v, of the sum and of the range leave of a triangle: a distance, which may be NaN, or a miss.
+/// A triangle of which the first test has found u in range, with what the others need.
 #[derive(Clone, Copy)]
-pub enum Distance {
-    At(f64),
-    Miss,
+pub struct Within {
+    pub offset: Vec3,
+    pub a: Vec3,
+    pub b: Vec3,
+    pub determinant: f64,
+    pub inverse: f64,
+    pub u: f64,
 }
 
-// What is known of a triangle after the first of its tests: u is in range, with what the others need, or a miss, or a refusal with its
-// number.
-#[derive(Clone, Copy)]
-pub enum Crossing {
-    Within {
-        offset: Vec3,
-        a: Vec3,
-        b: Vec3,
-        determinant: f64,
-        inverse: f64,
-        u: f64,
-    },
-    Miss,
-    Refused(u32),
-}
+/// What the first test leaves of a triangle, a miss, or a refusal.
+pub type Crossing = Result<Option<Within>, Refusal>;

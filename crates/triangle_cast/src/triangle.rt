@@ -4,19 +4,18 @@ ghost use Rattle.casts.specs.Answer.{none, says};
 ghost use Rattle.vectors.specs.Vector.{vector, sub_of};
 ghost use Rattle.geometry.specs.Box.{corner};
 ghost use Rattle.geometry.specs.declared.ray.Ray.{Ray as RayOf};
-ghost use Rattle.casts.specs.Reach.{reach_of};
-ghost use Rattle.triangle_cast.specs.Crossing.{crossing_answer, distance_within, settled_answer};
-ghost use Rattle.triangle_cast.specs.declared.parts.Crossing.TheVariants.{Within};
+ghost use Rattle.casts.specs.Reach.{reach_of, says_reach};
+ghost use Rattle.triangle_cast.specs.Crossing.{crossing_answer, within_answer, distance_within, settled_answer};
 ghost use Rattle.triangle_cast.specs.Size.{or_size, size_from_one};
 ghost use Rattle.triangle_cast.specs.Triangle.{flat, triangle_normal, has_normal, triangle_at, triangle_cast, ray_triangle};
 
-use crate::parts::{Crossing, Distance};
+use crate::parts::{Crossing, Within};
 use arithmetic::{basic, extremes};
-use casts::answer::{Cast, Reach};
-use casts::{answer, surface};
+use casts::answer::{Cast, Hit, Reach, Refusal};
+use casts::surface;
 use geometry::ray::Ray;
 use vectors::numbers;
-use vectors::vec3::{Checked, Normalized, Vec3};
+use vectors::vec3::Vec3;
 
 // The larger of a number and another's size, by two comparisons: neither asks for NaN, which leaves the number.
 fn at_least_size(number: f64, x: f64) -> f64
@@ -27,6 +26,7 @@ fn at_least_size(number: f64, x: f64) -> f64
 }
 
 // The largest of 1 and a vector's components in size.
+#[tactic(auto, unfolding(crate::specs::Size::size_from_one))]
 fn size_from_one(v: Vec3) -> f64
     ensures { (result ≡ size_from_one v) × (is_nan result ≡ false) }
 {
@@ -34,6 +34,7 @@ fn size_from_one(v: Vec3) -> f64
 }
 
 // Whether the determinant is too small for the edges' scale.
+#[tactic(auto, using(crate::proofs::FlatLaws::flat_by_size))]
 pub fn is_flat(determinant: f64, a: Vec3, b: Vec3) -> bool
     ensures { result ≡ flat determinant a b }
 {
@@ -42,20 +43,21 @@ pub fn is_flat(determinant: f64, a: Vec3, b: Vec3) -> bool
 }
 
 // The hit at a distance: the edges' normal, flipped to face the ray.
+#[tactic(auto, unfolding(crate::specs::Triangle::triangle_normal))]
 pub fn triangle_normal(ray: Ray, a: Vec3, b: Vec3, distance: f64) -> Cast
     ensures { says result ≡ triangle_normal ray a b distance }
 {
-    let unit = a.cross(b).normalize();
-    let Normalized::Unit(normal) = unit else {
-        return Cast::Refused(answer::NO_NORMAL);
+    let Some(normal) = a.cross(b).normalize() else {
+        return Err(Refusal::NoNormal);
     };
-    Cast::Hit {
+    Ok(Some(Hit {
         normal: surface::facing(normal, ray.direction.dot(normal)),
-        distance: distance,
-    }
+        distance,
+    }))
 }
 
 // Whether the edges' normal can be told: decided by their cross alone, without the root.
+#[tactic(auto, unfolding(crate::specs::Triangle::has_normal))]
 fn has_normal(a: Vec3, b: Vec3) -> bool
     ensures { result ≡ has_normal a b }
 {
@@ -63,28 +65,37 @@ fn has_normal(a: Vec3, b: Vec3) -> bool
 }
 
 // The distance where u is in range: v, the sum of both and the range are tested. Small, so that it is compiled into each user.
-pub fn distance_within(ray: Ray, offset: Vec3, a: Vec3, b: Vec3, inverse: f64, u: f64) -> Distance
+#[tactic(auto, unfolding(crate::specs::Crossing::distance_within))]
+pub fn distance_within(
+    ray: Ray,
+    offset: Vec3,
+    a: Vec3,
+    b: Vec3,
+    inverse: f64,
+    u: f64,
+) -> Option<f64>
     ensures { result ≡ distance_within ray offset a b inverse u }
 {
     let q = offset.cross(a);
     let v = ray.direction.dot(q) * inverse;
     if v < 0.0 {
-        return Distance::Miss;
+        return None;
     }
     if u + v > 1.0 {
-        return Distance::Miss;
+        return None;
     }
     let distance = b.dot(q) * inverse;
     if surface::off_segment(ray, distance) {
-        return Distance::Miss;
+        return None;
     }
-    Distance::At(distance)
+    Some(distance)
 }
 
 // What is left at a distance, without the normal, and so without its root. The edges come by their numbers: a call that is not inlined
 // takes numbers in registers, where a vector would go through memory, and its reader would wait for the writer.
 // A flat determinant is a miss like what is tested before it, so the test for it, which takes longest, comes after them.
 // A NaN distance of a flat triangle is a miss too, and else 6, so NaN is tested last.
+#[tactic(auto, using(crate::proofs::ReachLaws::reach_by_normal), unfolding(casts::specs::Reach::reach_of))]
 pub fn settled(
     determinant: f64,
     a_x: f64,
@@ -95,7 +106,7 @@ pub fn settled(
     b_z: f64,
     distance: f64,
 ) -> Reach
-    ensures { (s : RayOf) → result ≡ reach_of (settled_answer s determinant (vector a_x a_y a_z) (vector b_x b_y b_z)
+    ensures { (s : RayOf) → says_reach result ≡ reach_of (settled_answer s determinant (vector a_x a_y a_z) (vector b_x b_y b_z)
         distance) }
 {
     let a = Vec3 {
@@ -109,166 +120,152 @@ pub fn settled(
         z: b_z,
     };
     if is_flat(determinant, a, b) {
-        return Reach::Miss;
+        return Ok(None);
     }
-    if distance != distance {
-        return Reach::Refused(answer::OVERFLOW);
+    if distance.is_nan() {
+        return Err(Refusal::Overflow);
     }
     if has_normal(a, b) {
-        return Reach::At(distance);
+        return Ok(Some(distance));
     }
-    Reach::Refused(answer::NO_NORMAL)
+    Err(Refusal::NoNormal)
 }
 
 // The hit at a distance, as `triangle_normal` finds it, where the determinant is known: but for its sign and for rounding that is the
 // direction's dot with the edges' cross, and so tells beforehand whether the normal is to be flipped.
-pub fn normal_by(ray: Ray, determinant: f64, a: Vec3, b: Vec3, distance: f64) -> Cast
+#[inline(always)]
+#[tactic(auto, unfolding(crate::specs::Triangle::triangle_normal))]
+fn normal_by(ray: Ray, determinant: f64, a: Vec3, b: Vec3, distance: f64) -> Cast
     ensures { says result ≡ triangle_normal ray a b distance }
 {
-    let unit = a.cross(b).normalize();
-    let Normalized::Unit(normal) = unit else {
-        return Cast::Refused(answer::NO_NORMAL);
+    let Some(normal) = a.cross(b).normalize() else {
+        return Err(Refusal::NoNormal);
     };
-    Cast::Hit {
+    Ok(Some(Hit {
         normal: surface::facing_as(normal, ray.direction.dot(normal), determinant < 0.0),
-        distance: distance,
-    }
+        distance,
+    }))
 }
 
 // The same with the normal, which takes longest and so is begun first: what comes here is nearly always a hit.
+#[inline(always)]
 fn settled_cast(ray: Ray, determinant: f64, a: Vec3, b: Vec3, distance: f64) -> Cast
     ensures { says result ≡ settled_answer ray determinant a b distance }
 {
     let hit = normal_by(ray, determinant, a, b, distance);
     if is_flat(determinant, a, b) {
-        return Cast::None;
+        return Ok(None);
     }
-    if distance != distance {
-        return Cast::Refused(answer::OVERFLOW);
+    if distance.is_nan() {
+        return Err(Refusal::Overflow);
     }
     hit
 }
 
 // What the first test tells where the determinant is finite; a NaN u is a miss.
+#[tactic(auto, using(crate::proofs::ReachLaws::none_either_way), unfolding(crate::specs::Triangle::triangle_at))]
 fn crossing_at(offset: Vec3, a: Vec3, b: Vec3, p: Vec3, determinant: f64) -> Crossing
     ensures { (s : RayOf) → crossing_answer s result ≡ cond (flat determinant a b) none (triangle_at s offset a b p determinant) }
 {
     let inverse = 1.0 / determinant;
     let u = offset.dot(p) * inverse;
-    if 0.0 <= u {
-        if u <= 1.0 {
-            return Crossing::Within {
-                offset: offset,
-                a: a,
-                b: b,
-                determinant: determinant,
-                inverse: inverse,
-                u: u,
-            };
-        }
-    }
-    Crossing::Miss
-}
-
-// The first of the triangle's tests, at which most triangles miss: small, so that it is inlined at each user, and what is left stays out of
-// line.
-pub fn crossing(ray: Ray, corners: [Vec3; 3]) -> Crossing
-    ensures { crossing_answer ray result ≡ triangle_cast ray corners }
-{
-    let first = corners[0];
-    let second = corners[1];
-    let third = corners[2];
-    let a = second.sub(first);
-    let b = third.sub(first);
-    let p = ray.direction.cross(b);
-    let along = a.checked_dot(p);
-    let Checked::Value(determinant) = along else {
-        return Crossing::Refused(answer::OVERFLOW);
-    };
-    crossing_at(ray.origin.sub(first), a, b, p, determinant)
-}
-
-// What is left after the first test, without the normal, and so without its root: what the mesh and the height grid ask first of each
-// triangle.
-pub fn reach_within(
-    ray: Ray,
-    offset: Vec3,
-    a: Vec3,
-    b: Vec3,
-    determinant: f64,
-    inverse: f64,
-    u: f64,
-) -> Reach
-    ensures { result ≡ reach_of (crossing_answer ray (Within offset a b determinant inverse u)) }
-{
-    let found = distance_within(ray, offset, a, b, inverse, u);
-    let Distance::At(distance) = found else {
-        return Reach::Miss;
-    };
-    settled(determinant, a.x, a.y, a.z, b.x, b.y, b.z, distance)
-}
-
-// What is left after the first test, with the normal.
-fn cast_within(
-    ray: Ray,
-    offset: Vec3,
-    a: Vec3,
-    b: Vec3,
-    determinant: f64,
-    inverse: f64,
-    u: f64,
-) -> Cast
-    ensures { says result ≡ crossing_answer ray (Within offset a b determinant inverse u) }
-{
-    let found = distance_within(ray, offset, a, b, inverse, u);
-    let Distance::At(distance) = found else {
-        return Cast::None;
-    };
-    settled_cast(ray, determinant, a, b, distance)
-}
-
-// The hit at the distance that the corners are reached at.
-pub fn hit_at(ray: Ray, corners: [Vec3; 3], distance: f64) -> Cast
-    ensures { says result ≡ triangle_normal ray (sub_of (corner corners 1) (corner corners 0))
-        (sub_of (corner corners 2) (corner corners 0)) distance }
-{
-    let first = corners[0];
-    let second = corners[1];
-    let third = corners[2];
-    triangle_normal(ray, second.sub(first), third.sub(first), distance)
-}
-
-// The Rust's ray_triangle, with nothing tested before it.
-fn triangle_cast(ray: Ray, corners: [Vec3; 3]) -> Cast
-    ensures { says result ≡ triangle_cast ray corners }
-{
-    let start = crossing(ray, corners);
-    match start {
-        Crossing::Within {
+    if 0.0 <= u && u <= 1.0 {
+        return Ok(Some(Within {
             offset,
             a,
             b,
             determinant,
             inverse,
             u,
-        } => {
-            return cast_within(ray, offset, a, b, determinant, inverse, u);
-        }
-        Crossing::Miss => {
-            return Cast::None;
-        }
-        Crossing::Refused(number) => {
-            return Cast::Refused(number);
-        }
+        }));
     }
+    Ok(None)
+}
+
+// The first of the triangle's tests, at which most triangles miss: small, so that it is inlined at each user, and what is left stays out of
+// line.
+#[tactic(auto, unfolding(crate::specs::Triangle::triangle_of))]
+pub fn crossing(ray: Ray, corners: [Vec3; 3]) -> Crossing
+    ensures { crossing_answer ray result ≡ triangle_cast ray corners }
+{
+    let [first, second, third] = corners;
+    let a = second.sub(first);
+    let b = third.sub(first);
+    let p = ray.direction.cross(b);
+    let Some(determinant) = a.checked_dot(p) else {
+        return Err(Refusal::Overflow);
+    };
+    crossing_at(ray.origin.sub(first), a, b, p, determinant)
+}
+
+// What is left after the first test, without the normal, and so without its root: what the mesh and the height grid ask first of each
+// triangle.
+pub fn reach_within(ray: Ray, within: Within) -> Reach
+    ensures { says_reach result ≡ reach_of (within_answer ray within) }
+{
+    let Within {
+        offset,
+        a,
+        b,
+        determinant,
+        inverse,
+        u,
+    } = within;
+    let Some(distance) = distance_within(ray, offset, a, b, inverse, u) else {
+        return Ok(None);
+    };
+    settled(determinant, a.x, a.y, a.z, b.x, b.y, b.z, distance)
+}
+
+// What is left after the first test, with the normal.
+#[inline(always)]
+fn cast_within(ray: Ray, within: Within) -> Cast
+    ensures { says result ≡ within_answer ray within }
+{
+    let Within {
+        offset,
+        a,
+        b,
+        determinant,
+        inverse,
+        u,
+    } = within;
+    let Some(distance) = distance_within(ray, offset, a, b, inverse, u) else {
+        return Ok(None);
+    };
+    settled_cast(ray, determinant, a, b, distance)
+}
+
+// The hit at the distance that the corners are reached at. It is compiled into its users: a call would be handed the corners through
+// memory.
+#[inline(always)]
+pub fn hit_at(ray: Ray, corners: [Vec3; 3], distance: f64) -> Cast
+    ensures { says result ≡ triangle_normal ray (sub_of (corner corners 1) (corner corners 0))
+        (sub_of (corner corners 2) (corner corners 0)) distance }
+{
+    let [first, second, third] = corners;
+    triangle_normal(ray, second.sub(first), third.sub(first), distance)
+}
+
+// The Rust's ray_triangle, with nothing tested before it. It is compiled into each of its users, and what it calls into it: a call would
+// hand the ray and the corners over through memory.
+#[inline(always)]
+pub fn triangle_cast(ray: Ray, corners: [Vec3; 3]) -> Cast
+    ensures { says result ≡ triangle_cast ray corners }
+{
+    let Some(within) = crossing(ray, corners)? else {
+        return Ok(None);
+    };
+    cast_within(ray, within)
 }
 
 // The cast of any ray at any three corners.
+#[tactic(auto, unfolding(crate::specs::Triangle::ray_triangle))]
 pub fn ray_triangle(ray: Ray, corners: [Vec3; 3]) -> Cast
     ensures { says result ≡ ray_triangle ray corners }
 {
     if !ray.validate() {
-        return Cast::Refused(answer::INVALID_INPUT);
+        return Err(Refusal::InvalidInput);
     }
     triangle_cast(ray, corners)
 }

@@ -33,7 +33,7 @@ module _ (v : Vec3) (h : finite_vec v ≡ true) where
         finite_z;
   }
 
--- what `hasNumbers` tells, component by component
+-- what `has_numbers` tells, component by component
 pub numbers_told : (v : Vec3) → has_numbers v ≡ true → Numbers v
 unfolding has_numbers
 numbers_told v h =

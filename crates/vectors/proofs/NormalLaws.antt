@@ -28,8 +28,8 @@ use Rattle.vectors.specs.Vector.{finite_vec, zero_vec, normalizable, dot_tells, 
 use Rattle.vectors.specs.Vector.{length_of}
 use Rattle.vectors.specs.Vector.{tells_length, abs_of, max_element, each, vector}
 use Rattle.vectors.specs.declared.vec3.Vec3.{Vec3}
-use Rattle.vectors.specs.declared.vec3.Normalized.{Normalized}
-use Rattle.vectors.specs.declared.vec3.Normalized.TheVariants.{Unit as UnitOf, Degenerate}
+use Rattle.std.specs.Prelude.{Option}
+use Rattle.std.specs.Prelude.{Some, None}
 use Rattle.vectors.proofs.FiniteVectors.{finite_x, finite_y, finite_z}
 use Rattle.lists.proofs.JoinedTests.{and_first, and_second, and_both, and_three}
 use Rattle.vectors.proofs.SquareLaws.{square_of_infinite, square_sign, first_sign, first_sum}
@@ -50,13 +50,13 @@ module _ (v : Vec3) (h : normalizable v ≡ true) where
   normalizable_not_zero = not_joined (finite_vec v) (zero_vec v) h
 
 -- "It fails only for a zero vector or a component that is not finite."
-pub normalized_where : (v : Vec3) → normalizable v ≡ true → try_normalize v ≡ UnitOf (over_length (cond (dot_tells v) v (scaled_to_one v)))
+pub normalized_where : (v : Vec3) → normalizable v ≡ true → try_normalize v ≡ Some (over_length (cond (dot_tells v) v (scaled_to_one v)))
 unfolding try_normalize
-normalized_where v h = ap (λ (b : Bool). cond b (UnitOf (over_length (cond (dot_tells v) v (scaled_to_one v)))) Degenerate) h
+normalized_where v h = ap (λ (b : Bool). cond b (Some (over_length (cond (dot_tells v) v (scaled_to_one v)))) None) h
 
-pub fails_where : (v : Vec3) → normalizable v ≡ false → try_normalize v ≡ Degenerate
+pub fails_where : (v : Vec3) → normalizable v ≡ false → try_normalize v ≡ None
 unfolding try_normalize
-fails_where v h = ap (λ (b : Bool). cond b (UnitOf (over_length (cond (dot_tells v) v (scaled_to_one v)))) Degenerate) h
+fails_where v h = ap (λ (b : Bool). cond b (Some (over_length (cond (dot_tells v) v (scaled_to_one v)))) None) h
 
 -- ---- a dot that tells
 unbounded_not_finite : (x : Float) → Unbounded x → is_finite x ≡ false
@@ -112,8 +112,8 @@ module _ (v : Vec3) where
       on true e = absurd (true≢false (sym (dot_of_zero e) ∙ not_joined (is_finite (dot_of v v)) (lt (dot_of v v) min_positive) h))
       on false e = e
 
-  pub unchanged_where_told : dot_tells v ≡ true → try_normalize v ≡ UnitOf (over_length v)
-  unchanged_where_told h = normalized_where v (told_normalizable h) ∙ ap (λ (b : Bool). UnitOf (over_length (cond b v (scaled_to_one v)))) h
+  pub unchanged_where_told : dot_tells v ≡ true → try_normalize v ≡ Some (over_length v)
+  unchanged_where_told h = normalized_where v (told_normalizable h) ∙ ap (λ (b : Bool). Some (over_length (cond b v (scaled_to_one v)))) h
 
 -- ---- the largest component
 absolute_finite : (x : Float) → is_finite x ≡ true → is_finite (absolute x) ≡ true
@@ -398,19 +398,19 @@ module _ (v : Vec3) where
   unfolding over_length length_of
   over_told square length e l = ap (λ (z : Float). each (λ (c : Float). c /ᶠ z) v) (l ∙ ap root_of e)
 
-  abbrev pub after_scaling : Normalized
-  after_scaling = cond (normalizable v) (UnitOf (over_length (scaled_to_one v))) Degenerate
+  abbrev pub after_scaling : Option Vec3
+  after_scaling = cond (normalizable v) (Some (over_length (scaled_to_one v))) None
 
-  pub degenerate_told : normalizable v ≡ false → Degenerate ≡ after_scaling
-  degenerate_told h = sym (ap (λ (b : Bool). cond b (UnitOf (over_length (scaled_to_one v))) Degenerate) h)
+  pub degenerate_told : normalizable v ≡ false → None ≡ after_scaling
+  degenerate_told h = sym (ap (λ (b : Bool). cond b (Some (over_length (scaled_to_one v))) None) h)
 
-  pub scaling_told : (w u : Vec3) → normalizable v ≡ true → w ≡ scaled_to_one v → u ≡ over_length w → UnitOf u ≡ after_scaling
+  pub scaling_told : (w u : Vec3) → normalizable v ≡ true → w ≡ scaled_to_one v → u ≡ over_length w → Some u ≡ after_scaling
   scaling_told w u h e p =
-      ap UnitOf (p ∙ ap over_length e) ∙ sym (ap (λ (b : Bool). cond b (UnitOf (over_length (scaled_to_one v))) Degenerate) h)
+      ap Some (p ∙ ap over_length e) ∙ sym (ap (λ (b : Bool). cond b (Some (over_length (scaled_to_one v))) None) h)
 
   after_scaling_lem : dot_tells v ≡ false → after_scaling ≡ try_normalize v
   unfolding try_normalize
-  after_scaling_lem h = sym (ap (λ (b : Bool). cond (normalizable v) (UnitOf (over_length (cond b v (scaled_to_one v)))) Degenerate) h)
+  after_scaling_lem h = sym (ap (λ (b : Bool). cond (normalizable v) (Some (over_length (cond b v (scaled_to_one v)))) None) h)
 
   pub not_finite_scaled : (d : Float) → d ≡ dot_of v v → is_finite d ≡ false → after_scaling ≡ try_normalize v
   unfolding dot_tells
@@ -433,8 +433,8 @@ module _ (v : Vec3) where
   told_direction d e p q = sym (told_normalizable v (dot_tells_lem d e p q))
 
   pub told_unit : (d : Float) (u : Vec3) → d ≡ dot_of v v → is_finite d ≡ true → lt d min_positive ≡ false → u ≡ over_length v
-      → UnitOf u ≡ try_normalize v
-  told_unit d u e p q o = ap UnitOf o ∙ sym (unchanged_where_told v (dot_tells_lem d e p q))
+      → Some u ≡ try_normalize v
+  told_unit d u e p q o = ap Some o ∙ sym (unchanged_where_told v (dot_tells_lem d e p q))
 
 -- ---- as `tells_length` asks: 1e-300 is at least 2^-1022, and 1e300 finite
 between_finite : (x : Float) → le least_square x ≡ true → le x greatest_square ≡ true → is_finite x ≡ true

@@ -1,5 +1,5 @@
 -- Vectors: what is done on one axis is done on each. Definitions only. Assumes nothing.
-use Rattle.std.specs.Prelude.{ℕ, ◌≡◌, Bool, false, ◌&&◌, not, cond, eqb, Float}
+use Rattle.std.specs.Prelude.{ℕ, ◌≡◌, Bool, false, ◌&&◌, not, cond, eqb, Float, Option, Some, None}
 use Rattle.std.specs.Float.Ieee.{lt, le, eq, neg, is_nan}
 use Rattle.arithmetic.specs.Extremes.{minimum_of, maximum_of}
 use Rattle.arithmetic.specs.Basic.{is_finite, absolute}
@@ -7,10 +7,6 @@ use Rattle.arithmetic.specs.Root.{root_of}
 use Rattle.arithmetic.specs.Scaling.{digits_of, scaled_by}
 use Rattle.vectors.specs.Numbers.{◌+ᶠ◌, ◌-ᶠ◌, ◌*ᶠ◌, ◌/ᶠ◌, zeroᶠ, min_positive, least_square, greatest_square}
 use Rattle.vectors.specs.declared.vec3.Vec3.{Vec3}
-use Rattle.vectors.specs.declared.vec3.Checked.{Checked}
-use Rattle.vectors.specs.declared.vec3.Checked.TheVariants.{Value, Overflow}
-use Rattle.vectors.specs.declared.vec3.Normalized.{Normalized}
-use Rattle.vectors.specs.declared.vec3.Normalized.TheVariants.{Unit as UnitOf, Degenerate}
 
 -- ---- axes
 
@@ -73,8 +69,8 @@ unfoldable pub dot_of : Vec3 → Vec3 → Float
 dot_of v w = ((v.x *ᶠ w.x) +ᶠ (v.y *ᶠ w.y)) +ᶠ (v.z *ᶠ w.z)
 
 -- "checked dot refuses unless finite"
-unfoldable pub checked_dot : Vec3 → Vec3 → Checked
-checked_dot v w = cond (is_finite (dot_of v w)) (Value (dot_of v w)) Overflow
+unfoldable pub checked_dot : Vec3 → Vec3 → Option Float
+checked_dot v w = cond (is_finite (dot_of v w)) (Some (dot_of v w)) None
 
 -- "Cross is (y·z'-z·y', z·x'-x·z', x·y'-y·x')"
 unfoldable pub cross_of : Vec3 → Vec3 → Vec3
@@ -100,7 +96,7 @@ normalizable v = finite_vec v && not (zero_vec v)
 unfoldable pub dot_tells : Vec3 → Bool
 dot_tells v = is_finite (dot_of v v) && not (lt (dot_of v v) min_positive)
 
--- the test that the code makes of a dot first; where it passes, the dot tells (`between-tells`)
+-- the test that the code makes of a dot first; where it passes, the dot tells (`between_tells`)
 unfoldable pub tells_length : Float → Bool
 tells_length square = le least_square square && le square greatest_square
 
@@ -113,5 +109,5 @@ unfoldable pub over_length : Vec3 → Vec3
 over_length v = each (λ (c : Float). c /ᶠ length_of v) v
 
 -- "Where the dot is not finite or below 2^-1022, normalising first scales the vector .. and then proceeds."
-unfoldable pub try_normalize : Vec3 → Normalized
-try_normalize v = cond (normalizable v) (UnitOf (over_length (cond (dot_tells v) v (scaled_to_one v)))) Degenerate
+unfoldable pub try_normalize : Vec3 → Option Vec3
+try_normalize v = cond (normalizable v) (Some (over_length (cond (dot_tells v) v (scaled_to_one v)))) None

@@ -1,32 +1,17 @@
-ghost use Rattle.std.specs.Prelude.{◌≡◌, true, cond};
+ghost use Rattle.std.specs.Prelude.{◌≡◌, true, cond, None, Some};
 ghost use Rattle.vectors.specs.Vector.{finite_vec, has_numbers, Numbers, add_of, sub_of, scale_of, min_of, max_of, abs_of};
 ghost use Rattle.vectors.specs.Vector.{max_element, dot_of, checked_dot, cross_of, normalizable, tells_length, scaled_to_one, over_length};
 ghost use Rattle.vectors.specs.Vector.{try_normalize};
-ghost use Rattle.vectors.specs.declared.vec3.Normalized.TheVariants.{Unit as UnitOf, Degenerate};
 
 use arithmetic::{basic, extremes, scaling, square_root};
 
 // Laid out as C does: a part of a cabinet (crates/cabinet) has its origin in it.
 #[repr(C)]
-#[derive(Clone, Copy)]
+#[derive(Clone, Copy, PartialEq)]
 pub struct Vec3 {
     pub x: f64,
     pub y: f64,
     pub z: f64,
-}
-
-// A number, or that it is not finite.
-#[derive(Clone, Copy)]
-pub enum Checked {
-    Value(f64),
-    Overflow,
-}
-
-// A vector divided by its length, or that it has no direction that can be told.
-#[derive(Clone, Copy)]
-pub enum Normalized {
-    Unit(Vec3),
-    Degenerate,
 }
 
 // Between these squares, each of which is far from what cannot be told, a square tells its vector's length.
@@ -35,44 +20,30 @@ const LEAST_SQUARE: f64 = 1.0e-300;
 const GREATEST_SQUARE: f64 = 1.0e300;
 
 // Whether a vector's dot with itself lies between them, so that it tells the length. After a no the callers take the way for any vector.
+#[tactic(auto, unfolding(crate::specs::Vector::tells_length))]
 pub fn tells_length(square: f64) -> bool
     ensures { result ≡ tells_length square }
 {
-    if square >= LEAST_SQUARE {
-        return square <= GREATEST_SQUARE;
-    }
-    false
+    square >= LEAST_SQUARE && square <= GREATEST_SQUARE
 }
 
 impl Vec3 {
+    #[tactic(auto, unfolding(crate::specs::Vector::finite_vec))]
     pub fn is_finite(self) -> bool
         ensures { result ≡ finite_vec self }
     {
-        if !basic::is_finite(self.x) {
-            return false;
-        }
-        if !basic::is_finite(self.y) {
-            return false;
-        }
-        basic::is_finite(self.z)
+        basic::is_finite(self.x) && basic::is_finite(self.y) && basic::is_finite(self.z)
     }
 
     // Whether no component is NaN.
+    #[tactic(auto, unfolding(crate::specs::Vector::has_numbers))]
     pub fn has_numbers(self) -> bool
         ensures { result ≡ has_numbers self }
     {
-        if self.x != self.x {
-            return false;
-        }
-        if self.y != self.y {
-            return false;
-        }
-        if self.z != self.z {
-            return false;
-        }
-        true
+        !self.x.is_nan() && !self.y.is_nan() && !self.z.is_nan()
     }
 
+    #[tactic(auto, unfolding(crate::specs::Vector::add_of))]
     pub fn add(self, other: Vec3) -> Vec3
         ensures { result ≡ add_of self other }
     {
@@ -83,6 +54,7 @@ impl Vec3 {
         }
     }
 
+    #[tactic(auto, unfolding(crate::specs::Vector::sub_of))]
     pub fn sub(self, other: Vec3) -> Vec3
         ensures { result ≡ sub_of self other }
     {
@@ -93,6 +65,7 @@ impl Vec3 {
         }
     }
 
+    #[tactic(auto, unfolding(crate::specs::Vector::scale_of))]
     pub fn scale(self, factor: f64) -> Vec3
         ensures { result ≡ scale_of self factor }
     {
@@ -103,6 +76,9 @@ impl Vec3 {
         }
     }
 
+    // On each axis by itself, as `max`, `least`, `greatest` and `abs` are: a function over the operation would be no plainer than the three
+    // lines.
+    #[tactic(auto, unfolding(crate::specs::Vector::min_of))]
     pub fn min(self, other: Vec3) -> Vec3
         ensures { result ≡ min_of self other }
     {
@@ -113,6 +89,7 @@ impl Vec3 {
         }
     }
 
+    #[tactic(auto, unfolding(crate::specs::Vector::max_of))]
     pub fn max(self, other: Vec3) -> Vec3
         ensures { result ≡ max_of self other }
     {
@@ -124,6 +101,7 @@ impl Vec3 {
     }
 
     // `min` where this vector has no NaN, as callers show, and again without one: one instruction a component.
+    #[tactic(auto, unfolding(crate::specs::Vector::min_of))]
     pub fn least(self, other: Vec3) -> Vec3
         requires { Numbers self }
         ensures { (result ≡ min_of self other) × Numbers result }
@@ -136,6 +114,7 @@ impl Vec3 {
     }
 
     // `max` where this vector has no NaN, and again without one.
+    #[tactic(auto, unfolding(crate::specs::Vector::max_of))]
     pub fn greatest(self, other: Vec3) -> Vec3
         requires { Numbers self }
         ensures { (result ≡ max_of self other) × Numbers result }
@@ -147,6 +126,7 @@ impl Vec3 {
         }
     }
 
+    #[tactic(auto, unfolding(crate::specs::Vector::abs_of))]
     pub fn abs(self) -> Vec3
         ensures { result ≡ abs_of self }
     {
@@ -157,28 +137,29 @@ impl Vec3 {
         }
     }
 
+    #[tactic(auto, unfolding(crate::specs::Vector::max_element))]
     pub fn max_element(self) -> f64
         ensures { result ≡ max_element self }
     {
         extremes::maximum(extremes::maximum(self.x, self.y), self.z)
     }
 
+    #[tactic(auto, unfolding(crate::specs::Vector::dot_of))]
     pub fn dot(self, other: Vec3) -> f64
         ensures { result ≡ dot_of self other }
     {
         self.x * other.x + self.y * other.y + self.z * other.z
     }
 
-    pub fn checked_dot(self, other: Vec3) -> Checked
+    #[tactic(auto, unfolding(crate::specs::Vector::checked_dot))]
+    pub fn checked_dot(self, other: Vec3) -> Option<f64>
         ensures { result ≡ checked_dot self other }
     {
         let value = self.dot(other);
-        if basic::is_finite(value) {
-            return Checked::Value(value);
-        }
-        Checked::Overflow
+        basic::is_finite(value).then_some(value)
     }
 
+    #[tactic(auto, unfolding(crate::specs::Vector::cross_of))]
     pub fn cross(self, other: Vec3) -> Vec3
         ensures { result ≡ cross_of self other }
     {
@@ -193,26 +174,14 @@ impl Vec3 {
     pub fn is_normalizable(self) -> bool
         ensures { result ≡ normalizable self }
     {
-        if !self.is_finite() {
-            return false;
-        }
-        if self.x != 0.0 {
-            return true;
-        }
-        if self.y != 0.0 {
-            return true;
-        }
-        self.z != 0.0
+        self.is_finite() && (self.x != 0.0 || self.y != 0.0 || self.z != 0.0)
     }
 
     // The same where the dot tells most: one comparison or two.
     pub fn has_direction(self) -> bool
         ensures { result ≡ normalizable self }
     {
-        if tells_length(self.dot(self)) {
-            return true;
-        }
-        self.is_normalizable()
+        tells_length(self.dot(self)) || self.is_normalizable()
     }
 
     // The vector times the power of two that brings its largest component to at least 1 and below 2.
@@ -229,6 +198,7 @@ impl Vec3 {
     }
 
     // The vector divided by its length, where its dot with itself is `square`.
+    #[tactic(auto, using(crate::proofs::NormalLaws::over_told))]
     fn over_length(self, square: f64) -> Vec3
         requires { square ≡ dot_of self self }
         ensures { result ≡ over_length self }
@@ -242,38 +212,39 @@ impl Vec3 {
     }
 
     // What is left where the dot does not tell: the vector is scaled first.
-    fn normalize_scaled(self) -> Normalized
-        ensures { result ≡ cond (normalizable self) (UnitOf (over_length (scaled_to_one self))) Degenerate }
+    fn normalize_scaled(self) -> Option<Vec3>
+        ensures { result ≡ cond (normalizable self) (Some (over_length (scaled_to_one self))) None }
     {
         if !self.is_normalizable() {
-            return Normalized::Degenerate;
+            return None;
         }
         let scaled = self.scaled_to_one();
-        Normalized::Unit(scaled.over_length(scaled.dot(scaled)))
+        Some(scaled.over_length(scaled.dot(scaled)))
     }
 
-    // A dot that tells the length, which nearly all do, is told without the test for zero.
-    pub fn try_normalize(self) -> Normalized
+    // A dot that tells the length, which nearly all do, is told without the test for zero. Each test has its own call: with one call for
+    // both, the scaled way is compiled into this, which took more than twice the time.
+    pub fn try_normalize(self) -> Option<Vec3>
         ensures { result ≡ try_normalize self }
     {
         let dot = self.dot(self);
         if !basic::is_finite(dot) {
             return self.normalize_scaled();
         }
-        // 2^-1022
-        if dot < 2.2250738585072014e-308 {
+        if dot < f64::MIN_POSITIVE {
             return self.normalize_scaled();
         }
-        Normalized::Unit(self.over_length(dot))
+        Some(self.over_length(dot))
     }
 
     // The same, small enough to be compiled into a cast: what the dot does not tell is left to a call.
-    pub fn normalize(self) -> Normalized
+    #[tactic(auto, using(crate::proofs::NormalLaws::told_unit, crate::proofs::NormalLaws::between_tells))]
+    pub fn normalize(self) -> Option<Vec3>
         ensures { result ≡ try_normalize self }
     {
         let square = self.dot(self);
         if tells_length(square) {
-            return Normalized::Unit(self.over_length(square));
+            return Some(self.over_length(square));
         }
         self.try_normalize()
     }

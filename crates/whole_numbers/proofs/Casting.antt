@@ -1,4 +1,5 @@
 -- The triangle cast at a board that is drawn on whole numbers, by the determinants of Möller and Trumbore. Assumes nothing.
+use Rattle.std.specs.Prelude.{Option, Some, None}
 use mathlib.Core.Path.{◌≡◌, refl, sym, ap, ◌∙◌}
 use mathlib.Core.Logic.{inl, inr}
 use mathlib.Core.Bool.{Bool, true, false, not, ◌&&◌, ◌||◌, cond, and-false}
@@ -21,7 +22,6 @@ use Rattle.geometry.specs.Box.{corner}
 use Rattle.geometry.specs.Segment.{ray_admitted}
 use Rattle.vectors.specs.declared.vec3.Vec3.{Vec3}
 use Rattle.geometry.specs.declared.ray.Ray.{Ray}
-use Rattle.vectors.specs.declared.vec3.Normalized.{Normalized}
 use Rattle.casts.specs.Answer.{Answer, hit, none, with_normal, no_normal}
 use Rattle.casts.specs.Surface.{off_segment, facing}
 use Rattle.triangle_cast.specs.Triangle.{triangle_normal, triangle_above, triangle_at, triangle_of, ray_triangle}
@@ -320,7 +320,7 @@ module _ (r : Ray) (vs : List Vec3) (g : Drawing) (whole_triangle : WholeTriangl
     pub normal_is : (x : Float) → triangle_normal r A B x ≡ hit faced x
     unfolding triangle_normal faced
     normal_is x =
-        ap (λ (n : Normalized). with_normal n no_normal (λ (normal : Vec3). hit (facing normal (dot_of r.direction normal)) x))
+        ap (λ (n : Option Vec3). with_normal n no_normal (λ (normal : Vec3). hit (facing normal (dot_of r.direction normal)) x))
         (normalized_where (cross_of A B) has_normal_lem)
 
     -- all tests passed

@@ -1,23 +1,20 @@
 -- A guess at a fraction's digits, checked. Assumes nothing.
-use Rattle.std.proofs.Common.{◌≡◌, ℕ, suc, ◌+◌, ◌-◌, ◌*◌, ◌/◌, ◌%◌, ◌^◌, ◌<◌, ◌≤◌, Bool, true, false, ℤ, pos, ◌+ℤ◌, ◌-ℤ◌, ◌*ℤ◌, sym, refl}
+use Rattle.std.proofs.Common.{◌≡◌, ℕ, suc, ◌+◌, ◌*◌, ◌/◌, ◌%◌, ◌^◌, ◌<◌, ◌≤◌, false, ℤ, pos, ◌+ℤ◌, ◌*ℤ◌, sym, refl}
 use Rattle.std.proofs.Common.{ap, ◌∙◌, subst, le_trans, le_of_eq, lt_of_le_of_lt, le_of_lt, mod-lt, mod-eq_of_lt, mul_assoc}
-use Rattle.std.proofs.Common.{mul-le-mul_left, div-add-mod', arith, lit<, pow-add, ltb-false, ltb-true}
-use lib.Signed.{lt_z}
+use Rattle.std.proofs.Common.{mul-le-mul_left, div-add-mod', arith, lit<, pow-add}
 use lib.Pow.{pow-lt}
 use lib.Ieee.{Float, binary64, round, units}
 use Rattle.wide_integers.proofs.Polynomials.{Rep}
 use Rattle.wide_integers.specs.declared.number.Wide.{Wide}
 use Rattle.wide_integers.specs.declared.division.Quotient.{Quotient}
-use Rattle.wide_integers.specs.declared.guess.Sought.{Sought}
-use Rattle.wide_integers.specs.declared.guess.Sought.TheVariants.{At, Not as Lost}
-use Rattle.wide_integers.specs.Value.{base, half, zero_at, raised, value, FitsWide, Middling}
-use Rattle.wide_integers.specs.Division.{magnitude, Counts, Ready, digits_of}
+use Rattle.std.specs.Prelude.{Option, Some, None}
+use Rattle.wide_integers.specs.Value.{base, half, zero_at, raised, value, Middling}
+use Rattle.wide_integers.specs.Division.{magnitude, Counts, digits_of}
 use Rattle.wide_integers.specs.Guess.{Left, Divides, Found, Finds, Answers}
 use Rattle.wide_integers.proofs.Limbs.{low_high}
 use Rattle.wide_integers.proofs.ValueLaws.{value_rep}
 use Rattle.wide_integers.proofs.OperationLaws.{below_product}
-use Rattle.wide_integers.proofs.NaturalLaws.{magnitude_is, counted, sum_held, sum_counts, difference_held}
-use Rattle.wide_integers.proofs.NaturalLaws.{difference_counts, below_counts}
+use Rattle.wide_integers.proofs.NaturalLaws.{magnitude_is, sum_counts}
 use Rattle.wide_integers.proofs.RoundLaws.{round_told}
 
 -- ---- multiples
@@ -36,67 +33,6 @@ module _ {a : Wide} {n : ℕ} (c : Counts a n) (hh : a.high ≤ half) (hm : a.mi
     is = e ∙ ap (λ (z : ℤ). z *ℤ pos m) c.is;
     small = below_product n m (base * base) half middle_size (le_of_lt l) (lit< tt);
   }
-
--- ---- what is left
-module _ {n part : Wide} {N P : ℕ} (cn : Counts n N) (cp : Counts part P) {t : Bool} (q : t ≡ lt_z (value n) (value part))
-    (f : t ≡ false) where
-  left_least : P ≤ N
-  left_least = ltb-false N P (sym (below_counts cn cp q) ∙ f)
-
-  pub left_asks : FitsWide (value n -ℤ value part)
-  left_asks = difference_held cn cp left_least
-
-  pub left_is : (v : Wide) → value v ≡ value n -ℤ value part → Left N P v
-  left_is v e =
-      let c = difference_counts cn cp left_least e in
-      record { counts = counted c; same = plain (magnitude v) N P (magnitude_is c) left_least }
-    where
-      plain : (v N P : ℕ) → v ≡ N - P → P ≤ N → v + P ≡ N
-      plain v N P e l = omega (arith, e, l)
-
--- ---- the digits
-module _ {d rest : Wide} {N D g : ℕ} (cd : Counts d D) (l : Left N (D * g) rest) (few : g ≤ 9007199254740992) {t : Bool}
-    (q : t ≡ lt_z (value rest) (value d)) where
-  pub settled_first : t ≡ true → Divides N D (record { word = g; rest = rest })
-  settled_first k = record {
-    rest = l.counts;
-    same = plain g D (magnitude rest) N l.same;
-    below = ltb-true (magnitude rest) D (sym (below_counts l.counts cd q) ∙ k);
-    few = more g few;
-  }
-    where
-      plain : (g D r N : ℕ) → r + D * g ≡ N → g * D + r ≡ N
-      plain g D r N e = omega (arith, e)
-
-      more : (g : ℕ) → g ≤ 9007199254740992 → g ≤ 9007199254740993
-      more g h = omega (arith, h)
-
-  module _ (k : t ≡ false) where
-    rest_least : D ≤ magnitude rest
-    rest_least = ltb-false (magnitude rest) D (sym (below_counts l.counts cd q) ∙ k)
-
-    pub settled_asks : FitsWide (value rest -ℤ value d)
-    settled_asks = difference_held l.counts cd rest_least
-
-    module _ (less : Wide) (e : value less ≡ value rest -ℤ value d) {u : Bool} (f : u ≡ lt_z (value less) (value d)) where
-      less_counts : Counts less (magnitude rest - D)
-      less_counts = difference_counts l.counts cd rest_least e
-
-      pub settled_second : u ≡ true → Divides N D (record { word = g + 1; rest = less })
-      settled_second j = record {
-        rest = counted less_counts;
-        same = plain g D (magnitude rest) (magnitude less) N (magnitude_is less_counts) rest_least l.same;
-        below =
-            subst (λ (z : ℕ). z < D) (sym (magnitude_is less_counts))
-            (ltb-true (magnitude rest - D) D (sym (below_counts less_counts cd f) ∙ j));
-        few = more g few;
-      }
-        where
-          plain : (g D r s N : ℕ) → s ≡ r - D → D ≤ r → r + D * g ≡ N → (g + 1) * D + s ≡ N
-          plain g D r s N a b e = omega (arith, a, b, e)
-
-          more : (g : ℕ) → g ≤ 9007199254740992 → g + 1 ≤ 9007199254740993
-          more g h = omega (arith, h)
 
 -- ---- powers of two that a word holds
 pub power_word : (g : ℕ) → g ≤ 62 → 1 * 2 ^ g % 18446744073709551616 ≡ 2 ^ g
@@ -120,20 +56,6 @@ module _ {d rest n : Wide} (T D first P g : ℕ) (q : Quotient) (p : P ≡ 2 ^ g
       plain w R R₁ N a b c = let a' : (R₁ + D * first) * P ≡ T * P = ap (λ (z : ℕ). z * P) a in omega (arith, a', b, c)
 
   module _ (least : 4503599627370496 ≤ first * P + q.word) (most : first * P + q.word ≤ 9007199254740991) where
-    pub ready_guess : Ready (record { word = first * P + q.word; rest = q.rest }) d
-    ready_guess = record {
-      less = record {
-        rest = h.rest;
-        whole = counted cd;
-        below = subst (λ (z : ℕ). magnitude q.rest < z) (sym (magnitude_is cd)) h.below;
-      };
-      least = least;
-      most = plain (first * P + q.word) most;
-    }
-      where
-        plain : (n : ℕ) → n ≤ 9007199254740991 → n < 9007199254740992
-        plain n h = omega (arith, h)
-
     pub found_guess : (k : ℕ) (x : Float) → x ≡ units binary64 false (digits_of D (record { word = first * P + q.word; rest = q.rest })) k
         → Found T D g k x
     found_guess k x e = record {
@@ -168,8 +90,8 @@ found_coarse T W D j k w e f h =
     once T = omega arith
 
 -- t was raised by 2^26 before
-pub answers_low : (T U W g k : ℕ) → 0 < W → U ≡ T * 2 ^ 26 → g + k ≡ 1048 → (r : Sought) → Finds U W g k r → Answers T W r
-answers_low T U W g k w u e (At x) h =
+pub answers_low : (T U W g k : ℕ) → 0 < W → U ≡ T * 2 ^ 26 → g + k ≡ 1048 → (r : Option Float) → Finds U W g k r → Answers T W r
+answers_low T U W g k w u e (Some x) h =
     found_fine T W (26 + g) k w (exponents g k e)
     (record {
       quotient = h.quotient;
@@ -183,15 +105,15 @@ answers_low T U W g k w u e (At x) h =
   where
     exponents : (g k : ℕ) → g + k ≡ 1048 → 26 + g + k ≡ 1074
     exponents g k e = omega (arith, e)
-answers_low T U W g k w u e Lost h = tt
+answers_low T U W g k w u e None h = tt
 
-pub answers_fine : (T W g k : ℕ) → 0 < W → g + k ≡ 1074 → (r : Sought) → Finds T W g k r → Answers T W r
-answers_fine T W g k w e (At x) h = found_fine T W g k w e h
-answers_fine T W g k w e Lost h = tt
+pub answers_fine : (T W g k : ℕ) → 0 < W → g + k ≡ 1074 → (r : Option Float) → Finds T W g k r → Answers T W r
+answers_fine T W g k w e (Some x) h = found_fine T W g k w e h
+answers_fine T W g k w e None h = tt
 
-pub answers_coarse : (T W D j k : ℕ) → 0 < W → j + 1074 ≡ k → D ≡ W * 2 ^ j → (r : Sought) → Finds T D 0 k r → Answers T W r
-answers_coarse T W D j k w e f (At x) h = found_coarse T W D j k w e f h
-answers_coarse T W D j k w e f Lost h = tt
+pub answers_coarse : (T W D j k : ℕ) → 0 < W → j + 1074 ≡ k → D ≡ W * 2 ^ j → (r : Option Float) → Finds T D 0 k r → Answers T W r
+answers_coarse T W D j k w e f (Some x) h = found_coarse T W D j k w e f h
+answers_coarse T W D j k w e f None h = tt
 
 -- ---- the digits before the point, more than 53 of them
 module _ {rest low d : Wide} (T W first P : ℕ) (q : Quotient) (positive : 0 < P) (l : Left T (W * (first * P)) rest)
@@ -213,9 +135,6 @@ module _ {rest low d : Wide} (T W first P : ℕ) (q : Quotient) (positive : 0 < 
 
   left_small : left_over < zero_at
   left_small = lt_of_le_of_lt (le_of_lt left_below) cd.small
-
-  pub low_asks : FitsWide (value low +ℤ value q.rest)
-  low_asks = sum_held cl h.rest left_small
 
   module _ (v : Wide) (e : value v ≡ value low +ℤ value q.rest) where
     left_is_counted : Counts v left_over
@@ -241,17 +160,6 @@ module _ {rest low d : Wide} (T W first P : ℕ) (q : Quotient) (positive : 0 < 
         where
           plain : (n : ℕ) → n ≤ 9007199254740991 → n < 9007199254740992
           plain n h = omega (arith, h)
-
-      pub ready_whole : Ready (record { word = (first * P + q.word) / P; rest = v }) d
-      ready_whole = record {
-        less = record {
-          rest = counted left_is_counted;
-          whole = counted cd;
-          below = subst (λ (z : ℕ). magnitude v < z) (sym (magnitude_is cd)) whole_below;
-        };
-        least = least;
-        most = most_word;
-      }
 
       pub found_whole : (j k : ℕ) (x : Float) → P ≡ 2 ^ j
           → x ≡ units binary64 false (digits_of (magnitude d) (record { word = (first * P + q.word) / P; rest = v })) k

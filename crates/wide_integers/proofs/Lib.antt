@@ -2,6 +2,7 @@
 pub mod WordLaws
 pub mod Limbs
 pub mod ValueLaws
+pub mod WordOrder
 pub mod OperationLaws
 pub mod NaturalLaws
 pub mod DivisionLaws

@@ -1,5 +1,5 @@
 -- Sums, differences, products and comparisons, from what their steps on three words tell. Assumes nothing.
-use Rattle.std.proofs.Common.{◌≡◌, ℕ, zero, suc, ◌+◌, ◌-◌, ◌*◌, ◌/◌, ◌^◌, ◌<◌, ◌≤◌, Bool, true, false, ltb, ℤ, pos, negsuc, ◌+ℤ◌, ◌-ℤ◌}
+use Rattle.std.proofs.Common.{◌≡◌, ℕ, ◌+◌, ◌-◌, ◌*◌, ◌/◌, ◌^◌, ◌<◌, ◌≤◌, Bool, true, false, ℤ, pos, negsuc, ◌+ℤ◌, ◌-ℤ◌}
 use Rattle.std.proofs.Common.{◌*ℤ◌, nat_abs, sym, refl, ap, ◌∙◌, le_trans, le_of_eq, lt_of_le_of_lt, arith, lit<}
 use lib.Signed.{lt_z}
 use Rattle.wide_integers.specs.declared.number.Wide.{Wide}
@@ -9,7 +9,8 @@ use Rattle.wide_integers.proofs.Polynomials.{Rep, own_pos, rep_add, rep_sub, rep
 use Rattle.wide_integers.proofs.Order.{lt_rep, nlt_rep, rep_lt, rep_nlt}
 use Rattle.wide_integers.proofs.Reading.{mul_le, product_size}
 use Rattle.wide_integers.proofs.ValueLaws.{difference_rep, rep_least, rep_most, value_rep}
-use Rattle.wide_integers.specs.declared.triples.Carried.{Carried}
+use Rattle.wide_integers.specs.declared.words.Carried.{Carried}
+use Rattle.wide_integers.specs.declared.words.Double.{Double}
 use Rattle.wide_integers.specs.declared.triples.Long.{Long}
 use Rattle.wide_integers.specs.Triples.{triple_base, Words, Carries, Borrows, Doubled, Signed, Times}
 use Rattle.wide_integers.specs.LongValue.{long_zero, long_raised, long_value, FitsLong}
@@ -17,12 +18,11 @@ use Rattle.wide_integers.proofs.Limbs.{three, two_words, middle_words}
 use Rattle.wide_integers.proofs.OperationLaws.{middling_most}
 use Rattle.wide_integers.specs.Sizes.{Sized}
 use Rattle.wide_integers.specs.declared.triples.Quad.{Quad}
-use Rattle.wide_integers.specs.declared.triples.Short.{Short}
 use Rattle.wide_integers.specs.Triples.{PairsMultiplied, PairSubtracted}
 use Rattle.wide_integers.proofs.Pairs.{medium_pair, medium_turned, medium_sum, six_words, six_joined, narrow_pair}
 use Rattle.wide_integers.proofs.Rows.{below_cube, signed_top}
 use Rattle.wide_integers.proofs.Pairs.{remainder_is, sum_pair, difference_pair, product_pair}
-use Rattle.wide_integers.proofs.Pairs.{pair_below, order_pair, sign_less, sign_not_less}
+use Rattle.wide_integers.proofs.Pairs.{pair_below, sign_less, sign_not_less}
 
 -- ---- what words stand for
 pub words_below : {w : Wide} → Words w → raised w < triple_base
@@ -54,7 +54,7 @@ module _ {z : ℤ} {P N : ℕ} (r : Rep z P N) (p q : ℕ) where
       (words_below h) e))
 
 -- a number of three words is their words less 2^192 where it is below 0
-pub signed_rep : {a : Wide} {x : Carried} → Signed a x → Rep (value a) (raised x.words) (x.over * triple_base)
+pub signed_rep : {a : Wide} {x : Carried Wide} → Signed a x → Rep (value a) (raised x.words) (x.over * triple_base)
 signed_rep {a} {x} s =
     record {
       is =
@@ -65,7 +65,7 @@ signed_rep {a} {x} s =
     moved v n A Z X S e f = omega (arith, e, f)
 
 -- ---- sums and differences
-module _ (a b : Long) (l h t : Carried) (c : Signed h.words t) where
+module _ (a b : Long) (l h t : Carried Wide) (c : Signed h.words t) where
   pub sum_is : Carries a.low b.low 0 l → Carries a.high b.high l.over h → FitsLong (long_value a +ℤ long_value b)
       → long_value (record { high = t.words; low = l.words }) ≡ long_value a +ℤ long_value b
   sum_is e f k =
@@ -99,8 +99,8 @@ product_fits a b h k =
           (mul_le (nat_abs (value a)) (nat_abs (value b)) zero_at zero_at (value_size a h) (value_size b k))) (lit< tt);
     }
 
-module _ {a b : Wide} {x y : Carried} (sa : Signed a x) (sb : Signed b y) (m : Long) (e : Doubled x.words y.words m) where
-  pub product_is : {u v : Wide} (once twice top : Carried) → Times y.over x.words u → Times x.over y.words v
+module _ {a b : Wide} {x y : Carried Wide} (sa : Signed a x) (sb : Signed b y) (m : Long) (e : Doubled x.words y.words m) where
+  pub product_is : {u v : Wide} (once twice top : Carried Wide) → Times y.over x.words u → Times x.over y.words v
       → Borrows m.high u 0 once → Borrows once.words v 0 twice → Signed twice.words top → FitsLong (value a *ℤ value b)
       → long_value (record { high = top.words; low = m.low }) ≡ value a *ℤ value b
   product_is {u} {v} once twice top tu tv f g c k =
@@ -113,40 +113,6 @@ module _ {a b : Wide} {x y : Carried} (sa : Signed a x) (sb : Signed b y) (m : L
       (ap (λ (n : ℕ). raised twice.words + (n + 0)) (sym tv.product) ∙ g.rest) c.same)
 
 -- ---- the order
-raise : (x y z : ℕ) → x < y → x + z < y + z
-raise x y z h = omega (arith, h)
-
-raise_not : (x y z : ℕ) → x ≤ y → x + z ≤ y + z
-raise_not x y z h = omega (arith, h)
-
-less : (T A B M : ℕ) → T + B ≡ A + 1 * M → T < M → A < B
-less T A B M e h = omega (arith, e, h)
-
-not_less : (T A B M : ℕ) → T + B ≡ A + 0 * M → B ≤ A
-not_less T A B M e = omega (arith, e)
-
-module _ (a b : Long) (l h : Carried) where
-  pub below_decides : Borrows a.low b.low 0 l → Borrows a.high b.high l.over h
-      → ltb 0 h.over ≡ lt_z (long_value a) (long_value b)
-  below_decides e f =
-      go h.over f.over
-      (order_pair triple_base (raised a.high) (raised a.low) (raised b.high) (raised b.low) (raised h.words)
-      (raised l.words) l.over h.over e.rest f.rest)
-    where
-      go : (o : ℕ) → o ≤ 1
-          → raised h.words * triple_base + raised l.words + long_raised b ≡ long_raised a + o * (triple_base * triple_base)
-          → ltb 0 o ≡ lt_z (long_value a) (long_value b)
-      go zero k e' =
-          sym (nlt_rep (long_rep a) (long_rep b)
-          (raise_not (long_raised b) (long_raised a) long_zero
-          (not_less (raised h.words * triple_base + raised l.words) (long_raised a) (long_raised b) (triple_base * triple_base) e')))
-      go (suc zero) k e' =
-          sym (lt_rep (long_rep a) (long_rep b)
-          (raise (long_raised a) (long_raised b) long_zero
-          (less (raised h.words * triple_base + raised l.words) (long_raised a) (long_raised b) (triple_base * triple_base) e'
-          (pair_below triple_base (raised h.words) (raised l.words) (words_below f.words) (words_below e.words)))))
-      go (suc (suc n)) k e' = absurd (omega (arith, k))
-
 -- the sign is that of the higher words
 pub negative_decides : (a : Long) → Words a.low → lt_z (value a.high) (pos 0) ≡ lt_z (long_value a) (pos 0)
 negative_decides a k = go (lt_z (value a.high) (pos 0)) refl
@@ -191,7 +157,7 @@ top_word : (v : ℕ) → v < base → half - v / half + v / half ≡ half
 top_word v h = omega (arith, h)
 
 module _ (a b : Wide) (s t : ℕ) (ra : Rep (value a) (a.middle * base + a.low) (s * (base * base)))
-    (rb : Rep (value b) (b.middle * base + b.low) (t * (base * base))) (q : Quad) (once twice : Short) where
+    (rb : Rep (value b) (b.middle * base + b.low) (t * (base * base))) (q : Quad) (once twice : Carried Double) where
   abbrev X : ℕ
   X = a.middle * base + a.low
 
@@ -208,38 +174,39 @@ module _ (a b : Wide) (s t : ℕ) (ra : Rep (value a) (a.middle * base + a.low) 
   lower = q.w1 * base + q.w0
 
   abbrev v : ℕ
-  v = twice.high
+  v = twice.words.high
 
   abbrev σ : ℕ
-  σ = twice.high / half
+  σ = twice.words.high / half
 
   abbrev v' : ℕ
-  v' = twice.high + half - twice.high / half * base
+  v' = twice.words.high + half - twice.words.high / half * base
 
   abbrev R : ℕ
-  R = (v' * base + twice.low) * (base * base) + lower
+  R = (v' * base + twice.words.low) * (base * base) + lower
 
   abbrev answer : Long
   answer = record {
-    high = record { high = half - σ; middle = σ * 18446744073709551615; low = twice.high };
-    low = record { high = twice.low; middle = q.w1; low = q.w0 };
+    high = record { high = half - σ; middle = σ * 18446744073709551615; low = twice.words.high };
+    low = record { high = twice.words.low; middle = q.w1; low = q.w0 };
   }
 
   pub medium_is : PairsMultiplied a.middle a.low b.middle b.low q
       → PairSubtracted q.w3 q.w2 (t * a.middle) (t * a.low) once
-      → PairSubtracted once.high once.low (s * b.middle) (s * b.low) twice
+      → PairSubtracted once.words.high once.words.low (s * b.middle) (s * b.low) twice
       → nat_abs (value a *ℤ value b) < quad_half → long_value answer ≡ value a *ℤ value b
   medium_is e f g k =
       equal (long_rep answer) r
       (six_joined R quad_half (long_raised answer) P N long_zero
       (remainder_is P N quad_half R (base * base * (base * base)) (once.over + twice.over) (s * t + σ) refl
       (rep_least r quad_half k) (rep_most r quad_half k) small
-      (medium_sum P N ((v * base + twice.low) * (base * base) + lower) quad_half R (base * base * (base * base))
+      (medium_sum P N ((v * base + twice.words.low) * (base * base) + lower) quad_half R (base * base * (base * base))
       (once.over + twice.over) (s * t) σ
-      (medium_pair (base * base) X Y s t (q.w3 * base + q.w2) lower (once.high * base + once.low) (v * base + twice.low) once.over
-      twice.over e.product (pulled t a.middle a.low base (once.high * base + once.low) f.rest)
-      (pulled s b.middle b.low base (v * base + twice.low) g.rest))
-      (medium_turned (base * base) base half v twice.low v' σ lower (turned_word v g.high) refl)))
+      (medium_pair (base * base) X Y s t (q.w3 * base + q.w2) lower (once.words.high * base + once.words.low) (v * base + twice.words.low)
+      once.over
+      twice.over e.product (pulled t a.middle a.low base (once.words.high * base + once.words.low) f.rest)
+      (pulled s b.middle b.low base (v * base + twice.words.low) g.rest))
+      (medium_turned (base * base) base half v twice.words.low v' σ lower (turned_word v g.high) refl)))
       (joined (six_words (three base (half - σ) (σ * 18446744073709551615) v) (σ * base) (half * (base * base)) v v' half
       (base * (base * base)) (raised answer.low) (signed_top base half 18446744073709551615 (half - σ) σ v (top_word v g.high) refl)
       (turned_word v g.high))))
@@ -255,7 +222,7 @@ module _ (a b : Wide) (s t : ℕ) (ra : Rep (value a) (a.middle * base + a.low) 
 
       small : R < base * base * (base * base)
       small =
-          pair_below (base * base) (v' * base + twice.low) lower (two_words base v' twice.low (turned_below v g.high) g.low)
+          pair_below (base * base) (v' * base + twice.words.low) lower (two_words base v' twice.words.low (turned_below v g.high) g.low)
           (two_words base q.w1 q.w0 e.w1 e.w0)
 
       ordered : (v B w l m : ℕ) → v * (B * (B * B)) + ((w * B + l) * B + m) ≡ (v * B + w) * (B * B) + (l * B + m)
@@ -263,7 +230,7 @@ module _ (a b : Wide) (s t : ℕ) (ra : Rep (value a) (a.middle * base + a.low) 
 
       joined : {z : ℕ} → z ≡ v' * (base * (base * base)) + raised answer.low + half * (base * base) * (base * (base * base))
           → z ≡ R + long_zero
-      joined h = h ∙ ap (λ (n : ℕ). n + long_zero) (ordered v' base twice.low q.w1 q.w0)
+      joined h = h ∙ ap (λ (n : ℕ). n + long_zero) (ordered v' base twice.words.low q.w1 q.w0)
 
 -- a number below 2^128 either way, by its two lower words
 pub two_words_rep : (a : Wide) → Words a → Middling (value a) → Rep (value a) (a.middle * base + a.low) ((half - a.high) * (base * base))
@@ -275,7 +242,7 @@ two_words_rep a h k = record {
     plain : (x : ℕ) → x ≤ half → x + (half - x) ≡ half
     plain x g = omega (arith, g)
 
-pub narrow_is : (a : Long) (t : Carried) → Signed a.low t → FitsWide (long_value a) → value t.words ≡ long_value a
+pub narrow_is : (a : Long) (t : Carried Wide) → Signed a.low t → FitsWide (long_value a) → value t.words ≡ long_value a
 narrow_is a t c k =
     wide_is (long_rep a) (zero_at + t.over) (raised a.high + 1) t.words c.words k
     (narrow_pair triple_base zero_at (raised a.high) (raised a.low) (raised t.words) t.over refl c.same)

@@ -1,5 +1,5 @@
 -- Sums, differences, products and comparisons, from what their steps on single words tell. Assumes nothing.
-use Rattle.std.proofs.Common.{◌≡◌, ℕ, zero, suc, ◌+◌, ◌-◌, ◌*◌, ◌/◌, ◌%◌, ◌^◌, ◌<◌, ◌≤◌, Bool, true, false, not, ltb, leb, ℤ, pos, negsuc}
+use Rattle.std.proofs.Common.{◌≡◌, ℕ, suc, ◌+◌, ◌-◌, ◌*◌, ◌/◌, ◌%◌, ◌^◌, ◌<◌, ◌≤◌, Bool, true, false, not, ltb, leb, ℤ, pos, negsuc}
 use Rattle.std.proofs.Common.{◌+ℤ◌, ◌-ℤ◌, ◌*ℤ◌, nat_abs, sym, refl, ap, ◌∙◌, subst, lt_of_le_of_lt, mul-le-mul_right, mul-le-mul_left}
 use Rattle.std.proofs.Common.{arith, lit<, w64, SFits, ltb-false, ltb-true, le-leb}
 use native.Mathlib.Nat.{add-mul-mod_self_right}
@@ -11,14 +11,14 @@ use Rattle.wide_integers.proofs.Polynomials.{Rep, own_pos, rep_add, rep_sub, rep
 use Rattle.wide_integers.proofs.Order.{lt_rep, nlt_rep}
 use Rattle.wide_integers.proofs.Reading.{product_size}
 use Rattle.wide_integers.specs.declared.number.Wide.{Wide}
-use Rattle.wide_integers.specs.declared.words.Digit.{Digit}
+use Rattle.wide_integers.specs.declared.words.Carried.{Carried}
 use Rattle.wide_integers.specs.declared.words.Double.{Double}
 use Rattle.wide_integers.specs.declared.words.Part.{Part}
 use Rattle.wide_integers.specs.Value.{base, half, zero_at, raised, value, FitsWide, Middling}
 use Rattle.wide_integers.specs.Steps.{Added, Subtracted, Multiplied, SplitSign}
-use Rattle.wide_integers.proofs.Limbs.{three, sum_words, difference_words, product_words}
-use Rattle.wide_integers.proofs.Limbs.{times_words, order_words, three_below, order_less}
-use Rattle.wide_integers.proofs.Limbs.{order_not_less, high_less, high_not_less, sign_words}
+use Rattle.wide_integers.proofs.Limbs.{sum_words, difference_words, product_words}
+use Rattle.wide_integers.proofs.Limbs.{times_words}
+use Rattle.wide_integers.proofs.Limbs.{high_less, high_not_less, sign_words}
 use Rattle.wide_integers.proofs.Limbs.{sign_above, sign_below, sign_least, sign_most}
 use Rattle.wide_integers.proofs.Limbs.{middle_least, middle_most, middle_words}
 use Rattle.wide_integers.proofs.ValueLaws.{difference_rep, rep_least, rep_most, value_rep, value_is, value_told}
@@ -40,14 +40,14 @@ below_product n k C H h g p =
     omega (arith, f, e, p)
 
 -- ---- sums and differences
-module _ (a b : Wide) (l m : Digit) (s h : ℕ) where
+module _ (a b : Wide) (l m : Carried ℕ) (s h : ℕ) where
   pub sum_told : Added a.low b.low 0 l → Added a.middle b.middle l.over m → s ≡ (a.high + b.high) % 2 ^ 64
       → h ≡ (s + (half + m.over)) % 2 ^ 64 → FitsWide (value a +ℤ value b)
-      → value (record { high = h; middle = m.word; low = l.word }) ≡ value a +ℤ value b
+      → value (record { high = h; middle = m.words; low = l.words }) ≡ value a +ℤ value b
   sum_told e f g k held =
-      value_told (rep_add (value_rep a) (value_rep b)) (record { high = h; middle = m.word; low = l.word }) half
+      value_told (rep_add (value_rep a) (value_rep b)) (record { high = h; middle = m.words; low = l.words }) half
       (a.high + b.high + m.over)
-      (sum_words base half a.high a.middle a.low b.high b.middle b.low m.word l.word l.over m.over e.sum
+      (sum_words base half a.high a.middle a.low b.high b.middle b.low m.words l.words l.over m.over e.sum
       f.sum) held (fits s m.over k) (top a.high b.high m.over s h g k) f.word e.word
     where
       fits : (s o : ℕ) → h ≡ (s + (half + o)) % 2 ^ 64 → h < base
@@ -60,14 +60,14 @@ module _ (a b : Wide) (l m : Digit) (s h : ℕ) where
 taken_twice : (h o s y t : ℕ) → (h + o) % 2 ^ 64 ≡ s → (s + y) % 2 ^ 64 ≡ t → (h + (y + o)) % 2 ^ 64 ≡ t
 taken_twice h o s y t e f = omega (arith, e, f)
 
-module _ (a b : Wide) (l m : Digit) (t s h : ℕ) (hh : h < base) where
+module _ (a b : Wide) (l m : Carried ℕ) (t s h : ℕ) (hh : h < base) where
   pub difference_told : Subtracted a.low b.low 0 l → Subtracted a.middle b.middle l.over m → t ≡ (a.high + half) % 2 ^ 64
       → (s + b.high) % 2 ^ 64 ≡ t → (h + m.over) % 2 ^ 64 ≡ s → FitsWide (value a -ℤ value b)
-      → value (record { high = h; middle = m.word; low = l.word }) ≡ value a -ℤ value b
+      → value (record { high = h; middle = m.words; low = l.words }) ≡ value a -ℤ value b
   difference_told e f g k j held =
-      value_told (rep_sub (value_rep a) (value_rep b)) (record { high = h; middle = m.word; low = l.word }) (b.high + m.over)
+      value_told (rep_sub (value_rep a) (value_rep b)) (record { high = h; middle = m.words; low = l.words }) (b.high + m.over)
       (a.high + half)
-      (difference_words base half a.high a.middle a.low b.high b.middle b.low m.word l.word l.over m.over
+      (difference_words base half a.high a.middle a.low b.high b.middle b.low m.words l.words l.over m.over
       e.rest f.rest) held hh (taken_twice h m.over s b.high t j k ∙ g) f.word e.word
 
 -- ---- products
@@ -77,16 +77,16 @@ part_rep {r = r} h = subst (λ (z : ℤ). Rep z r.word (r.below * base)) h.whole
 pub flag_word : {s w : ℕ} → s ≤ 1 → w < base → s * w < base
 flag_word {s} {w} h k = let g : s * w ≤ 1 * w = mul-le-mul_right w h in omega (arith, g, k)
 
-module _ {x y : ℤ} (a b : Part) (d : Double) (once twice : Digit) (pa : SplitSign x a) (pb : SplitSign y b) (fx : SFits w64 x)
+module _ {x y : ℤ} (a b : Part) (d : Double) (once twice : Carried ℕ) (pa : SplitSign x a) (pb : SplitSign y b) (fx : SFits w64 x)
     (fy : SFits w64 y) where
   product_told : Multiplied a.word b.word d → Subtracted d.high (b.below * a.word) 0 once
-      → Subtracted once.word (a.below * b.word) 0 twice
-      → value (record { high = half + a.below * b.below - (once.over + twice.over); middle = twice.word; low = d.low }) ≡ x *ℤ y
+      → Subtracted once.words (a.below * b.word) 0 twice
+      → value (record { high = half + a.below * b.below - (once.over + twice.over); middle = twice.words; low = d.low }) ≡ x *ℤ y
   product_told e f g =
       value_is (rep_mul (part_rep pa) (part_rep pb))
-      (record { high = half + a.below * b.below - (once.over + twice.over); middle = twice.word; low = d.low })
+      (record { high = half + a.below * b.below - (once.over + twice.over); middle = twice.words; low = d.low })
       (once.over + twice.over) (half + a.below * b.below)
-      (product_words base half a.word a.below b.word b.below d.high d.low once.word twice.word once.over
+      (product_words base half a.word a.below b.word b.below d.high d.low once.words twice.words once.over
       twice.over e.product f.rest g.rest) (top (a.below * b.below) once.over twice.over f.over g.over)
       g.word e.low
     where
@@ -114,16 +114,16 @@ high_told w hm hl k =
         split true p q = let l = p refl in let n = g l in omega (arith, l, n, a, hm)
         split false p q = let l = q refl in let n = f l in omega (arith, l, n, b)
 
-module _ {x y : ℤ} (a b : Part) (d : Double) (once twice : Digit) (pa : SplitSign x a) (pb : SplitSign y b) (fx : SFits w64 x)
+module _ {x y : ℤ} (a b : Part) (d : Double) (once twice : Carried ℕ) (pa : SplitSign x a) (pb : SplitSign y b) (fx : SFits w64 x)
     (fy : SFits w64 y) where
   pub product_signed : Multiplied a.word b.word d → Subtracted d.high (b.below * a.word) 0 once
-      → Subtracted once.word (a.below * b.word) 0 twice
-      → value (record { high = half - twice.word / half; middle = twice.word; low = d.low }) ≡ x *ℤ y
+      → Subtracted once.words (a.below * b.word) 0 twice
+      → value (record { high = half - twice.words / half; middle = twice.words; low = d.low }) ≡ x *ℤ y
   product_signed e f g =
       let h = half + a.below * b.below - (once.over + twice.over) in
-      let v : value (record { high = h; middle = twice.word; low = d.low }) ≡ x *ℤ y = product_told a b d once twice pa pb fx fy e f g in
-      ap (λ (n : ℕ). value (record { high = n; middle = twice.word; low = d.low }))
-      (sym (high_told (record { high = h; middle = twice.word; low = d.low }) g.word e.low
+      let v : value (record { high = h; middle = twice.words; low = d.low }) ≡ x *ℤ y = product_told a b d once twice pa pb fx fy e f g in
+      ap (λ (n : ℕ). value (record { high = n; middle = twice.words; low = d.low }))
+      (sym (high_told (record { high = h; middle = twice.words; low = d.low }) g.word e.low
       (subst (λ (z : ℤ). nat_abs z < half * base) (sym v)
       (lt_of_le_of_lt (product_size (word_size fx) (word_size fy)).size (lit< tt)))))
       ∙ v
@@ -150,19 +150,20 @@ module _ (a : Wide) (hm : a.middle < base) (hl : a.low < base) (k : Middling (va
       plain : (h : ℕ) → h ≤ half → h + (half - h) ≡ half
       plain h g = omega (arith, g)
 
-  module _ {y : ℤ} (b : Part) (lower upper : Double) (once twice : Digit) (over first second h : ℕ) (pb : SplitSign y b) (fy : SFits w64 y)
+  module _ {y : ℤ} (b : Part) (lower upper : Double) (once twice : Carried ℕ) (over first second h : ℕ) (pb : SplitSign y b)
+      (fy : SFits w64 y)
       (hh : h < base) where
     pub times_told : Multiplied a.low b.word lower → Multiplied a.middle b.word upper → Added lower.high upper.low 0 once
-        → Subtracted once.word (b.below * a.low) 0 twice → over ≡ (upper.high + (half + once.over)) % 2 ^ 64
+        → Subtracted once.words (b.below * a.low) 0 twice → over ≡ (upper.high + (half + once.over)) % 2 ^ 64
         → (first + twice.over) % 2 ^ 64 ≡ over → (second + b.below * a.middle) % 2 ^ 64 ≡ first
         → (h + (half - a.high) * b.word) % 2 ^ 64 ≡ second
-        → value (record { high = h; middle = twice.word; low = lower.low }) ≡ value a *ℤ y
+        → value (record { high = h; middle = twice.words; low = lower.low }) ≡ value a *ℤ y
     times_told e f g j w u v x =
-        value_told (rep_mul middling_rep (part_rep pb)) (record { high = h; middle = twice.word; low = lower.low })
+        value_told (rep_mul middling_rep (part_rep pb)) (record { high = h; middle = twice.words; low = lower.low })
         (twice.over + b.below * a.middle + (half - a.high) * b.word)
         (upper.high + once.over + half + (half - a.high) * b.below * base)
         (times_words base half a.middle a.low (half - a.high) b.word b.below lower.high lower.low upper.high
-        upper.low once.word twice.word twice.over once.over e.product f.product g.sum j.rest)
+        upper.low once.words twice.words twice.over once.over e.product f.product g.sum j.rest)
         (record { size = held_product }) hh
         (top twice.over (b.below * a.middle) ((half - a.high) * b.word) upper.high once.over ((half - a.high) * b.below) w u
         (taken_twice h ((half - a.high) * b.word) second (b.below * a.middle) first x v)) j.word e.low
@@ -187,30 +188,6 @@ module _ (a : Wide) (hm : a.middle < base) (hl : a.low < base) (k : Middling (va
 -- ---- the order
 moved : (x y z : ℕ) → x < y → x + z < y + z
 moved x y z h = omega (arith, h)
-
-moved_not : (x y z : ℕ) → x ≤ y → x + z ≤ y + z
-moved_not x y z h = omega (arith, h)
-
-module _ (a b : Wide) (l m h : Digit) where
-  pub below_told : Subtracted a.low b.low 0 l → Subtracted a.middle b.middle l.over m → Subtracted a.high b.high
-      m.over h
-      → ltb 0 h.over ≡ lt_z (value a) (value b)
-  below_told e f g =
-      go h.over g.over (three_below base half h.word m.word l.word g.word f.word e.word)
-      (order_words base half a.high a.middle a.low b.high b.middle b.low h.word m.word l.word l.over m.over
-      h.over e.rest f.rest g.rest)
-    where
-      go : (o : ℕ) → o ≤ 1 → three base h.word m.word l.word < base * (base * base)
-          → three base h.word m.word l.word + raised b ≡ raised a + o * (base * (base * base))
-          → ltb 0 o ≡ lt_z (value a) (value b)
-      go zero k t e =
-          sym (nlt_rep (value_rep a) (value_rep b)
-          (moved_not (raised b) (raised a) zero_at (order_not_less base half (three base h.word m.word l.word) (raised a)
-          (raised b) e)))
-      go (suc zero) k t e =
-          sym (lt_rep (value_rep a) (value_rep b)
-          (moved (raised a) (raised b) zero_at (order_less base half (three base h.word m.word l.word) (raised a) (raised b) e t)))
-      go (suc (suc n)) k t e = absurd (omega (arith, k))
 
 at_most_nat : (a b : ℕ) → not (ltb b a) ≡ leb a b
 at_most_nat a b = go (ltb b a) (ltb-true b a) (ltb-false b a)

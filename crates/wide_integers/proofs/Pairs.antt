@@ -74,12 +74,6 @@ module _ (C : ℕ) where
   pub pair_below : (h l : ℕ) → h < C → l < C → h * C + l < C * C
   pair_below h l hh hl = let g : suc h * C ≤ C * C = mul-le-mul_right C hh in omega (arith, g, hl)
 
-  pub order_pair : (ha la hb lb h l c d : ℕ) → l + (lb + 0) ≡ la + c * C → h + (hb + c) ≡ ha + d * C
-      → h * C + l + (hb * C + lb) ≡ ha * C + la + d * (C * C)
-  order_pair ha la hb lb h l c d e f =
-      let f' : (h + (hb + c)) * C ≡ (ha + d * C) * C = ap (λ (n : ℕ). n * C) f in
-      omega (arith, e, f')
-
   pub sign_less : (Z h l : ℕ) → l < C → h < Z → h * C + l < Z * C
   sign_less Z h l hl k = let g : suc h * C ≤ Z * C = mul-le-mul_right C k in omega (arith, g, hl)
 

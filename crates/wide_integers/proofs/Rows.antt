@@ -1,6 +1,5 @@
 -- Numbers of three words and their products, to any base B. Assumes nothing.
-use Rattle.std.proofs.Common.{◌≡◌, ℕ, suc, ◌+◌, ◌*◌, ◌/◌, ◌%◌, ◌<◌, ◌≤◌, sym, refl, ap, ◌∙◌, mul-le-mul_right, arith}
-use Rattle.wide_integers.specs.declared.words.Double.{Double}
+use Rattle.std.proofs.Common.{◌≡◌, ℕ, suc, ◌+◌, ◌*◌, ◌/◌, ◌%◌, ◌<◌, ◌≤◌, sym, ap, ◌∙◌, mul-le-mul_right, arith}
 use Rattle.wide_integers.specs.Value.{base}
 use Rattle.wide_integers.proofs.Limbs.{three}
 use Rattle.wide_integers.specs.Triples.{TimesAdded}

@@ -18,22 +18,22 @@ flags_fit false false = record { fits = omega arith }
 
 -- s is the sum's lowest 64 digits, and w those with the carry: one of the two is less than what it grew from, or none
 pub added : (a b c s w : ℕ) → a < base → b < base → c ≤ 1 → s ≡ (a + b) % 2 ^ 64 → w ≡ (s + c) % 2 ^ 64
-    → Added a b c (record { word = w; over = bool_byte (ltb s a) + bool_byte (ltb w s) })
+    → Added a b c (record { words = w; over = bool_byte (ltb s a) + bool_byte (ltb w s) })
 added a b c s w ha hb hc hs hw = go (ltb s a) (ltb-true s a) (ltb-false s a) (ltb w s) (ltb-true w s) (ltb-false w s)
   where
     go : (x : Bool) → (x ≡ true → s < a) → (x ≡ false → a ≤ s) → (y : Bool) → (y ≡ true → w < s) → (y ≡ false → s ≤ w)
-        → Added a b c (record { word = w; over = bool_byte x + bool_byte y })
+        → Added a b c (record { words = w; over = bool_byte x + bool_byte y })
     go true f g true f' g' = let p = f refl in let q = f' refl in absurd (omega arith)
     go true f g false f' g' = let p = f refl in let q = g' refl in record { sum = omega arith; word = omega arith; over = omega arith }
     go false f g true f' g' = let p = g refl in let q = f' refl in record { sum = omega arith; word = omega arith; over = omega arith }
     go false f g false f' g' = let p = g refl in let q = g' refl in record { sum = omega arith; word = omega arith; over = omega arith }
 
 pub taken : (a b c s w : ℕ) → a < base → b < base → c ≤ 1 → s < base → w < base → (s + b) % 2 ^ 64 ≡ a → (w + c) % 2 ^ 64 ≡ s
-    → Subtracted a b c (record { word = w; over = bool_byte (ltb a b) + bool_byte (ltb s c) })
+    → Subtracted a b c (record { words = w; over = bool_byte (ltb a b) + bool_byte (ltb s c) })
 taken a b c s w ha hb hc ks kw hs hw = go (ltb a b) (ltb-true a b) (ltb-false a b) (ltb s c) (ltb-true s c) (ltb-false s c)
   where
     go : (x : Bool) → (x ≡ true → a < b) → (x ≡ false → b ≤ a) → (y : Bool) → (y ≡ true → s < c) → (y ≡ false → c ≤ s)
-        → Subtracted a b c (record { word = w; over = bool_byte x + bool_byte y })
+        → Subtracted a b c (record { words = w; over = bool_byte x + bool_byte y })
     go true f g true f' g' = let p = f refl in let q = f' refl in absurd (omega arith)
     go true f g false f' g' = let p = f refl in let q = g' refl in record { rest = omega arith; word = omega arith; over = omega arith }
     go false f g true f' g' = let p = g refl in let q = f' refl in record { rest = omega arith; word = omega arith; over = omega arith }

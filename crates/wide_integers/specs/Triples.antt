@@ -3,10 +3,9 @@ use Rattle.std.specs.Prelude.{◌≡◌, ℕ, ◌+◌, ◌*◌, ◌<◌, ◌≤�
 use Rattle.wide_integers.specs.declared.number.Wide.{Wide}
 use Rattle.wide_integers.specs.declared.words.Double.{Double}
 use Rattle.wide_integers.specs.Value.{base, zero_at, raised}
-use Rattle.wide_integers.specs.declared.triples.Carried.{Carried}
+use Rattle.wide_integers.specs.declared.words.Carried.{Carried}
 use Rattle.wide_integers.specs.declared.triples.Long.{Long}
 use Rattle.wide_integers.specs.declared.triples.Quad.{Quad}
-use Rattle.wide_integers.specs.declared.triples.Short.{Short}
 
 -- 2^192
 abbrev pub triple_base : ℕ
@@ -23,17 +22,17 @@ pub record TimesAdded (a b c d : ℕ) (r : Double) : Type 0 where
   pub high : r.high < base
   pub low : r.low < base
 
-pub record RowOf (a : Wide) (k : ℕ) (more : Wide) (r : Carried) : Type 0 where
+pub record RowOf (a : Wide) (k : ℕ) (more : Wide) (r : Carried Wide) : Type 0 where
   pub sum : raised r.words + r.over * triple_base ≡ raised a * k + raised more
   pub words : Words r.words
   pub over : r.over < base
 
-pub record Carries (a b : Wide) (carry : ℕ) (r : Carried) : Type 0 where
+pub record Carries (a b : Wide) (carry : ℕ) (r : Carried Wide) : Type 0 where
   pub sum : raised r.words + r.over * triple_base ≡ raised a + raised b + carry
   pub words : Words r.words
   pub over : r.over ≤ 1
 
-pub record Borrows (a b : Wide) (borrow : ℕ) (r : Carried) : Type 0 where
+pub record Borrows (a b : Wide) (borrow : ℕ) (r : Carried Wide) : Type 0 where
   pub rest : raised r.words + (raised b + borrow) ≡ raised a + r.over * triple_base
   pub words : Words r.words
   pub over : r.over ≤ 1
@@ -44,7 +43,7 @@ pub record Doubled (a b : Wide) (r : Long) : Type 0 where
   pub low : Words r.low
 
 -- 2^191 less
-pub record Signed (a : Wide) (r : Carried) : Type 0 where
+pub record Signed (a : Wide) (r : Carried Wide) : Type 0 where
   pub same : raised r.words + zero_at ≡ raised a + r.over * triple_base
   pub words : Words r.words
   pub over : r.over ≤ 1
@@ -60,7 +59,7 @@ pub record PairsMultiplied (a₁ a₀ b₁ b₀ : ℕ) (r : Quad) : Type 0 where
   pub w1 : r.w1 < base
   pub w0 : r.w0 < base
 
-pub record PairSubtracted (h₁ h₀ x₁ x₀ : ℕ) (r : Short) : Type 0 where
-  pub rest : r.high * base + r.low + (x₁ * base + x₀) ≡ h₁ * base + h₀ + r.over * (base * base)
-  pub high : r.high < base
-  pub low : r.low < base
+pub record PairSubtracted (h₁ h₀ x₁ x₀ : ℕ) (r : Carried Double) : Type 0 where
+  pub rest : r.words.high * base + r.words.low + (x₁ * base + x₀) ≡ h₁ * base + h₀ + r.over * (base * base)
+  pub high : r.words.high < base
+  pub low : r.words.low < base

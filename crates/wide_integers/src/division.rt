@@ -27,6 +27,7 @@ fn doubled(limit: Wide, start: Wide) -> Grown
 {
     let mut whole = start;
     let mut power = 0;
+    // A loop: how often is told by the numbers alone.
     loop {
         let room = number::difference(limit, whole);
         if number::below(room, whole) {
@@ -62,10 +63,8 @@ fn digits(rest: Wide, whole: Wide) -> Quotient
     ensures { Divided (magnitude whole) (magnitude whole + magnitude rest) result }
 {
     let mut at = Quotient { word: 1, rest };
-    let mut i: u64 = 0;
-    while i < 52 {
+    for _i in 0u64..52 {
         at = step(at, whole);
-        i += 1;
     }
     at
 }

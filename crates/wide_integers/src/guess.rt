@@ -7,27 +7,6 @@ use crate::division::Quotient;
 use crate::number::Wide;
 use crate::{division, number};
 
-// A number, where three words held it.
-#[derive(Clone, Copy)]
-pub enum Fit {
-    Is(Wide),
-    Not,
-}
-
-// A quotient's digits, where the guess at them was right.
-#[derive(Clone, Copy)]
-pub enum Settled {
-    Is(Quotient),
-    Not,
-}
-
-// The float that was sought, where the guess at it was right.
-#[derive(Clone, Copy)]
-pub enum Sought {
-    At(f64),
-    Not,
-}
-
 // Near the number. Nothing rests on that.
 fn near(a: Wide) -> f64 {
     let high = std::num::nearest_u64_to_f64(std::num::wrapping_sub_u64(
@@ -62,147 +41,115 @@ fn two_to(g: u64) -> u64
 }
 
 // a · m, where a is below 2^128 and m below 2^63.
-fn multiple(a: Wide, m: u64) -> Fit
+fn multiple(a: Wide, m: u64) -> Option<Wide>
     requires { Counts a (magnitude a) }
     ensures { Holds (magnitude a * m) result }
 {
     if a.high > 9223372036854775808 {
-        return Fit::Not;
+        return None;
     }
     if m > 9223372036854775807 {
-        return Fit::Not;
+        return None;
     }
-    Fit::Is(number::times(a, m as i64))
+    Some(number::times(a, m as i64))
 }
 
 // n - d · m, where that is not below 0.
-fn left_of(n: Wide, d: Wide, m: u64) -> Fit
+fn left_of(n: Wide, d: Wide, m: u64) -> Option<Wide>
     requires { Counts n (magnitude n) × Counts d (magnitude d) }
     ensures { Leaves (magnitude n) (magnitude d * m) result }
 {
-    let held = multiple(d, m);
-    let Fit::Is(part) = held else {
-        return Fit::Not;
-    };
+    let part = multiple(d, m)?;
     if number::below(n, part) {
-        return Fit::Not;
+        return None;
     }
-    Fit::Is(number::difference(n, part))
+    Some(number::difference(n, part))
 }
 
 // The digits of n / d, by a guess at them, or one more.
-fn settle(n: Wide, d: Wide, guess: u64) -> Settled
+fn settle(n: Wide, d: Wide, guess: u64) -> Option<Quotient>
     requires { Counts n (magnitude n) × Counts d (magnitude d) }
     ensures { Settles (magnitude n) (magnitude d) result }
 {
     if guess > 9007199254740992 {
-        return Settled::Not;
+        return None;
     }
-    let left = left_of(n, d, guess);
-    let Fit::Is(rest) = left else {
-        return Settled::Not;
-    };
+    let rest = left_of(n, d, guess)?;
     if number::below(rest, d) {
-        return Settled::Is(Quotient { word: guess, rest });
+        return Some(Quotient { word: guess, rest });
     }
     let less = number::difference(rest, d);
     if number::below(less, d) {
-        return Settled::Is(Quotient {
+        return Some(Quotient {
             word: guess + 1,
             rest: less,
         });
     }
-    Settled::Not
+    None
 }
 
 // The float of 53 digits of t · 2^g / d, rounded, by a guess at the first of them.
-fn seek(t: Wide, d: Wide, first: u64, g: u64, k: u64) -> Sought
+fn seek(t: Wide, d: Wide, first: u64, g: u64, k: u64) -> Option<f64>
     requires { (Counts t (magnitude t) × Counts d (magnitude d)) × ((g ≤ 49) × ((first * 2 ^ g < 2 ^ 53) × (k ≤ 1500))) }
     ensures { Finds (magnitude t) (magnitude d) g k result }
 {
-    let over = left_of(t, d, first);
-    let Fit::Is(rest) = over else {
-        return Sought::Not;
-    };
+    let rest = left_of(t, d, first)?;
     let power = two_to(g);
-    let raised = multiple(rest, power);
-    let Fit::Is(n) = raised else {
-        return Sought::Not;
-    };
-    let last = settle(n, d, near_whole(n, d));
-    let Settled::Is(q) = last else {
-        return Sought::Not;
-    };
+    let n = multiple(rest, power)?;
+    let q = settle(n, d, near_whole(n, d))?;
     let word = first * power + q.word;
     if word < 4503599627370496 {
-        return Sought::Not;
+        return None;
     }
     if word > 9007199254740991 {
-        return Sought::Not;
+        return None;
     }
-    let left = q.rest;
-    let at = Quotient { word, rest: left };
-    Sought::At(division::assembled(at, d, k))
+    let at = Quotient { word, rest: q.rest };
+    Some(division::assembled(at, d, k))
 }
 
 // The float of 53 digits of t / (w · 2^j), rounded, by a guess at them.
-fn seek_whole(t: Wide, w: Wide, first: u64, j: u64, k: u64) -> Sought
+fn seek_whole(t: Wide, w: Wide, first: u64, j: u64, k: u64) -> Option<f64>
     requires { (Counts t (magnitude t) × Positive w) × ((first < 2 ^ 53) × ((j ≤ 8) × (k ≤ 1500))) }
     ensures { Finds (magnitude t) (magnitude w * 2 ^ j) 0 k result }
 {
     let power = two_to(j);
-    let over = left_of(t, w, first * power);
-    let Fit::Is(rest) = over else {
-        return Sought::Not;
-    };
-    let last = settle(rest, w, near_whole(rest, w));
-    let Settled::Is(q) = last else {
-        return Sought::Not;
-    };
+    let rest = left_of(t, w, first * power)?;
+    let q = settle(rest, w, near_whole(rest, w))?;
     let all = first * power + q.word;
     let word = all / power;
     if word < 4503599627370496 {
-        return Sought::Not;
+        return None;
     }
     if word > 9007199254740991 {
-        return Sought::Not;
+        return None;
     }
-    let lower = multiple(w, all % power);
-    let Fit::Is(low) = lower else {
-        return Sought::Not;
-    };
-    let upper = multiple(w, power);
-    let Fit::Is(d) = upper else {
-        return Sought::Not;
-    };
-    let left = q.rest;
+    let low = multiple(w, all % power)?;
+    let d = multiple(w, power)?;
     let at = Quotient {
         word,
-        rest: number::sum(low, left),
+        rest: number::sum(low, q.rest),
     };
-    Sought::At(division::assembled(at, d, k))
+    Some(division::assembled(at, d, k))
 }
 
 // The float nearest to t / w, by a guess, where t / w is from 2^-23 to 2^61.
-fn quick(t: Wide, w: Wide) -> Sought
+fn quick(t: Wide, w: Wide) -> Option<f64>
     requires { Positive t × Positive w }
     ensures { Answers (magnitude t) (magnitude w) result }
 {
     let bits = near_bits(t, w);
     let field = bits / 4503599627370496;
     if field < 1000 {
-        return Sought::Not;
+        return None;
     }
     if field > 1083 {
-        return Sought::Not;
+        return None;
     }
     let digits = bits % 4503599627370496 + 4503599627370480;
     if field < 1026 {
         let i = 1049 - field;
-        let raised = multiple(t, 67108864);
-        let Fit::Is(n) = raised else {
-            return Sought::Not;
-        };
+        let n = multiple(t, 67108864)?;
         return seek(n, w, digits >> i, i, field - 1);
     }
     if field < 1075 {
@@ -221,11 +168,10 @@ pub fn nearest(t: Wide, w: Wide) -> f64
     }
     if number::is_positive(w) {
         if number::is_positive(t) {
-            let found = quick(t, w);
-            let Sought::At(x) = found else {
-                return division::careful(t, w);
+            return match quick(t, w) {
+                Some(x) => x,
+                None => division::careful(t, w),
             };
-            return x;
         }
         return 0.0;
     }

@@ -15,15 +15,13 @@ pub fn sum(a: Long, b: Long) -> Long
     let low = triples::add(a.low, b.low, 0);
     let high = triples::add(a.high, b.high, low.over);
     let top = triples::signed(high.words);
-    let upper = top.words;
-    let lower = low.words;
     Long {
-        high: upper,
-        low: lower,
+        high: top.words,
+        low: low.words,
     }
 }
 
-// a - b.
+// a - b. Not one function with `sum`, as of `triples::add` and `subtract`.
 pub fn difference(a: Long, b: Long) -> Long
     requires { FitsLong (long_value a -ℤ long_value b) }
     ensures { long_value result ≡ long_value a -ℤ long_value b }
@@ -31,11 +29,9 @@ pub fn difference(a: Long, b: Long) -> Long
     let low = triples::subtract(a.low, b.low, 0);
     let high = triples::subtract(a.high, b.high, low.over);
     let top = triples::signed(high.words);
-    let upper = top.words;
-    let lower = low.words;
     Long {
-        high: upper,
-        low: lower,
+        high: top.words,
+        low: low.words,
     }
 }
 
@@ -49,11 +45,9 @@ pub fn product(a: Wide, b: Wide) -> Long
     let once = triples::subtract(whole.high, triples::chosen(y.over, x.words), 0);
     let twice = triples::subtract(once.words, triples::chosen(x.over, y.words), 0);
     let top = triples::signed(twice.words);
-    let upper = top.words;
-    let lower = whole.low;
     Long {
-        high: upper,
-        low: lower,
+        high: top.words,
+        low: whole.low,
     }
 }
 
@@ -66,16 +60,16 @@ pub fn pair_product(a: Wide, b: Wide) -> Long
     let t = 9223372036854775808 - b.high;
     let whole = triples::multiply_pairs(a.middle, a.low, b.middle, b.low);
     let once = triples::subtract_pair(whole.w3, whole.w2, t * a.middle, t * a.low);
-    let twice = triples::subtract_pair(once.high, once.low, s * b.middle, s * b.low);
-    let sign = twice.high / 9223372036854775808;
+    let twice = triples::subtract_pair(once.words.high, once.words.low, s * b.middle, s * b.low);
+    let sign = twice.words.high / 9223372036854775808;
     Long {
         high: Wide {
             high: 9223372036854775808 - sign,
             middle: sign * 18446744073709551615,
-            low: twice.high,
+            low: twice.words.high,
         },
         low: Wide {
-            high: twice.low,
+            high: twice.words.low,
             middle: whole.w1,
             low: whole.w0,
         },
@@ -87,8 +81,7 @@ pub fn narrow(a: Long) -> Wide
     requires { FitsWide (long_value a) }
     ensures { value result ≡ long_value a }
 {
-    let top = triples::signed(a.low);
-    top.words
+    triples::signed(a.low).words
 }
 
 // a · b, of two numbers up to 2^126, where three words hold it.
@@ -103,9 +96,7 @@ pub fn short_pair_product(a: Wide, b: Wide) -> Wide
 pub fn below(a: Long, b: Long) -> bool
     ensures { result ≡ int_lt (long_value a) (long_value b) }
 {
-    let low = triples::subtract(a.low, b.low, 0);
-    let high = triples::subtract(a.high, b.high, low.over);
-    high.over > 0
+    a < b
 }
 
 // Whether a is at most b.

@@ -5,7 +5,7 @@ ghost use Rattle.wide_integers.specs.Value.{value, FitsWide, Middling, Weight};
 use crate::words;
 
 // A whole number from -2^191 to below 2^191: high · 2^128 + middle · 2^64 + low - 2^191. So numbers are in order as their words are.
-#[derive(Clone, Copy)]
+#[derive(Clone, Copy, PartialEq, Eq, PartialOrd, Ord)]
 pub struct Wide {
     pub high: u64,
     pub middle: u64,
@@ -42,15 +42,16 @@ pub fn product(a: i64, b: i64) -> Wide
     let y = words::split_sign(b);
     let whole = words::times(x.word, y.word);
     let once = words::subtract(whole.high, y.below * x.word, 0);
-    let twice = words::subtract(once.word, x.below * y.word, 0);
+    let twice = words::subtract(once.words, x.below * y.word, 0);
     Wide {
-        high: 9223372036854775808 - twice.word / 9223372036854775808,
-        middle: twice.word,
+        high: 9223372036854775808 - twice.words / 9223372036854775808,
+        middle: twice.words,
         low: whole.low,
     }
 }
 
 // a + b.
+#[tactic(auto, using(crate::proofs::OperationLaws::sum_told))]
 pub fn sum(a: Wide, b: Wide) -> Wide
     requires { FitsWide (value a +ℤ value b) }
     ensures { value result ≡ value a +ℤ value b }
@@ -63,12 +64,13 @@ pub fn sum(a: Wide, b: Wide) -> Wide
     );
     Wide {
         high,
-        middle: middle.word,
-        low: low.word,
+        middle: middle.words,
+        low: low.words,
     }
 }
 
 // a - b.
+#[tactic(auto, using(crate::proofs::OperationLaws::difference_told))]
 pub fn difference(a: Wide, b: Wide) -> Wide
     requires { FitsWide (value a -ℤ value b) }
     ensures { value result ≡ value a -ℤ value b }
@@ -80,8 +82,8 @@ pub fn difference(a: Wide, b: Wide) -> Wide
     let high = std::num::wrapping_sub_u64(left, middle.over);
     Wide {
         high,
-        middle: middle.word,
-        low: low.word,
+        middle: middle.words,
+        low: low.words,
     }
 }
 
@@ -110,18 +112,19 @@ pub fn times(a: Wide, k: i64) -> Wide
     let lower = words::times(a.low, y.word);
     let upper = words::times(a.middle, y.word);
     let once = words::add_carry(lower.high, upper.low, 0);
-    let twice = words::subtract(once.word, y.below * a.low, 0);
+    let twice = words::subtract(once.words, y.below * a.low, 0);
     let over = std::num::wrapping_add_u64(upper.high, 9223372036854775808 + once.over);
     let first = std::num::wrapping_sub_u64(over, twice.over);
     let second = std::num::wrapping_sub_u64(first, y.below * a.middle);
     Wide {
         high: std::num::wrapping_sub_u64(second, below * y.word),
-        middle: twice.word,
+        middle: twice.words,
         low: lower.low,
     }
 }
 
 // a + b + c.
+#[tactic(auto, using(crate::proofs::Reading::sum_size, crate::proofs::OperationLaws::held))]
 pub fn total(a: Wide, b: Wide, c: Wide) -> Wide
     requires { Weight (value a) × (Weight (value b) × Weight (value c)) }
     ensures { value result ≡ value a +ℤ value b +ℤ value c }
@@ -141,10 +144,7 @@ pub fn weighted(a: Wide, x: i64, b: Wide, y: i64, c: Wide, z: i64) -> Wide
 pub fn below(a: Wide, b: Wide) -> bool
     ensures { result ≡ int_lt (value a) (value b) }
 {
-    let low = words::subtract(a.low, b.low, 0);
-    let middle = words::subtract(a.middle, b.middle, low.over);
-    let high = words::subtract(a.high, b.high, middle.over);
-    high.over > 0
+    a < b
 }
 
 // Whether a is at most b.
@@ -169,8 +169,5 @@ pub fn is_positive(a: Wide) -> bool
 pub fn is_zero(a: Wide) -> bool
     ensures { result ≡ is_zero (value a) }
 {
-    if is_negative(a) {
-        return false;
-    }
-    at_most(a, zero())
+    !is_negative(a) && at_most(a, zero())
 }

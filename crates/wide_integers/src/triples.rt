@@ -4,17 +4,11 @@ ghost use Rattle.wide_integers.specs.Triples.{PairsMultiplied, PairSubtracted};
 
 use crate::number::Wide;
 use crate::words;
-use crate::words::Double;
+use crate::words::{Carried, Double};
 
-// Three words, high · 2^128 + middle · 2^64 + low, and what passes them.
-#[derive(Clone, Copy)]
-pub struct Carried {
-    pub words: Wide,
-    pub over: u64,
-}
-
-// Six words, high · 2^192 + low, three of them each.
-#[derive(Clone, Copy)]
+// Six words, high · 2^192 + low, three of them each. A type of its own beside `Double`: a part's base is another, and one type would say
+// neither.
+#[derive(Clone, Copy, PartialEq, Eq, PartialOrd, Ord)]
 pub struct Long {
     pub high: Wide,
     pub low: Wide,
@@ -38,7 +32,7 @@ pub fn times_add(a: u64, b: u64, c: u64, d: u64) -> Double
 }
 
 // a · k + more.
-pub fn row(a: Wide, k: u64, more: Wide) -> Carried
+pub fn row(a: Wide, k: u64, more: Wide) -> Carried<Wide>
     ensures { RowOf a k more result }
 {
     let low = times_add(a.low, k, more.low, 0);
@@ -55,7 +49,8 @@ pub fn row(a: Wide, k: u64, more: Wide) -> Carried
 }
 
 // a + b + carry.
-pub fn add(a: Wide, b: Wide, carry: u64) -> Carried
+#[tactic(auto, using(crate::proofs::Rows::add_words))]
+pub fn add(a: Wide, b: Wide, carry: u64) -> Carried<Wide>
     requires { carry ≤ 1 }
     ensures { Carries a b carry result }
 {
@@ -64,16 +59,17 @@ pub fn add(a: Wide, b: Wide, carry: u64) -> Carried
     let high = words::add_carry(a.high, b.high, middle.over);
     Carried {
         words: Wide {
-            high: high.word,
-            middle: middle.word,
-            low: low.word,
+            high: high.words,
+            middle: middle.words,
+            low: low.words,
         },
         over: high.over,
     }
 }
 
-// a - b - borrow.
-pub fn subtract(a: Wide, b: Wide, borrow: u64) -> Carried
+// a - b - borrow. Not one function with `add`: their clauses differ by the side on which what passes stands.
+#[tactic(auto, using(crate::proofs::Rows::subtract_words))]
+pub fn subtract(a: Wide, b: Wide, borrow: u64) -> Carried<Wide>
     requires { borrow ≤ 1 }
     ensures { Borrows a b borrow result }
 {
@@ -82,9 +78,9 @@ pub fn subtract(a: Wide, b: Wide, borrow: u64) -> Carried
     let high = words::subtract(a.high, b.high, middle.over);
     Carried {
         words: Wide {
-            high: high.word,
-            middle: middle.word,
-            low: low.word,
+            high: high.words,
+            middle: middle.words,
+            low: low.words,
         },
         over: high.over,
     }
@@ -127,7 +123,8 @@ pub fn multiply(a: Wide, b: Wide) -> Long
 }
 
 // a - 2^191 as words - over · 2^192, where over is 1 or 0.
-pub fn signed(a: Wide) -> Carried
+#[tactic(auto, using(crate::proofs::Rows::signed_words))]
+pub fn signed(a: Wide) -> Carried<Wide>
     ensures { Signed a result }
 {
     Carried {
@@ -177,23 +174,17 @@ pub fn multiply_pairs(a1: u64, a0: u64, b1: u64, b0: u64) -> Quad
     }
 }
 
-// Two words, and what passes them.
-#[derive(Clone, Copy)]
-pub struct Short {
-    pub high: u64,
-    pub low: u64,
-    pub over: u64,
-}
-
 // (h1 · 2^64 + h0) - (x1 · 2^64 + x0).
-pub fn subtract_pair(h1: u64, h0: u64, x1: u64, x0: u64) -> Short
+pub fn subtract_pair(h1: u64, h0: u64, x1: u64, x0: u64) -> Carried<Double>
     ensures { PairSubtracted h1 h0 x1 x0 result }
 {
     let low = words::subtract(h0, x0, 0);
     let high = words::subtract(h1, x1, low.over);
-    Short {
-        high: high.word,
-        low: low.word,
+    Carried {
+        words: Double {
+            high: high.words,
+            low: low.words,
+        },
         over: high.over,
     }
 }

@@ -1,10 +1,12 @@
-ghost use Rattle.std.specs.Prelude.{◌+◌, ◌*◌, ◌≤◌};
+ghost use Rattle.std.specs.Prelude.{◌≤◌};
 ghost use Rattle.wide_integers.specs.Steps.{Added, Subtracted, Multiplied, SplitSign};
 
-// The lowest 64 digits of a sum or a difference, and what passes them: 1 or 0.
+use crate::triples;
+
+// What one word or some hold of a sum, a difference or a product, and what passes them.
 #[derive(Clone, Copy)]
-pub struct Digit {
-    pub word: u64,
+pub struct Carried<T> {
+    pub words: T,
     pub over: u64,
 }
 
@@ -23,42 +25,34 @@ pub struct Part {
 }
 
 // a + b + carry.
-pub fn add_carry(a: u64, b: u64, carry: u64) -> Digit
+#[tactic(auto, using(crate::proofs::WordLaws::flags_fit, crate::proofs::WordLaws::added))]
+pub fn add_carry(a: u64, b: u64, carry: u64) -> Carried<u64>
     requires { carry ≤ 1 }
     ensures { Added a b carry result }
 {
     let half = std::num::wrapping_add_u64(a, b);
-    let word = std::num::wrapping_add_u64(half, carry);
-    let over = (half < a) as u64 + (word < half) as u64;
-    Digit { word, over }
+    let words = std::num::wrapping_add_u64(half, carry);
+    let over = (half < a) as u64 + (words < half) as u64;
+    Carried { words, over }
 }
 
 // a - b - borrow.
-pub fn subtract(a: u64, b: u64, borrow: u64) -> Digit
+#[tactic(auto, using(crate::proofs::WordLaws::flags_fit, crate::proofs::WordLaws::taken))]
+pub fn subtract(a: u64, b: u64, borrow: u64) -> Carried<u64>
     requires { borrow ≤ 1 }
     ensures { Subtracted a b borrow result }
 {
     let half = std::num::wrapping_sub_u64(a, b);
-    let word = std::num::wrapping_sub_u64(half, borrow);
+    let words = std::num::wrapping_sub_u64(half, borrow);
     let over = (a < b) as u64 + (half < borrow) as u64;
-    Digit { word, over }
+    Carried { words, over }
 }
 
-// a · b, by halves of 32 digits.
+// a · b.
 pub fn times(a: u64, b: u64) -> Double
     ensures { Multiplied a b result }
 {
-    let high = a / 4294967296;
-    let low = a % 4294967296;
-    let upper = b / 4294967296;
-    let lower = b % 4294967296;
-    let first = low * lower;
-    let second = high * lower + first / 4294967296;
-    let third = low * upper + second % 4294967296;
-    Double {
-        high: high * upper + second / 4294967296 + third / 4294967296,
-        low: third % 4294967296 * 4294967296 + first % 4294967296,
-    }
+    triples::times_add(a, b, 0, 0)
 }
 
 // A whole number as its lowest 64 digits and its sign.

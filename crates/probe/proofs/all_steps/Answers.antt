@@ -1,5 +1,4 @@
 use Rattle.std.proofs.Common.{true≢false, arith, refl, sym, ap, ◌∙◌}
-use borrow.Author.Tests.{not-true, not-false}
 use Rattle.probe.specs.declared.runs.Run.{Run}
 use Rattle.probe.proofs.Known.{moves_none, moves_more, moves_finished, moves_output}
 use Rattle.probe.proofs.all_steps.Goals as goal
@@ -19,20 +18,20 @@ loop-steps-preserved g c = record {
   input_length = omega (arith, c.step-run.auto.input);
   output_length = omega (arith, c.step-run.auto.output);
   held_bound = c.step-run.ensures.held_bound;
-  moves = moves_more c.loop-steps.invariant.moves (not-true _ c.if-not-run.true) c.step-run.ensures.moves c.step-run.ensures.end;
+  moves = moves_more c.loop-steps.invariant.moves c.if-run.false c.step-run.ensures.moves c.step-run.ensures.end;
 }
 
 -- the run is over
-pub returns-else-not-run-clause-finished : goal.returns-else-not-run-clause-finished
-returns-else-not-run-clause-finished g c =
-    moves_finished c.loop-steps.invariant.moves (λ o. absurd (true≢false (sym (not-false _ c.if-not-run.false) ∙ o)))
+pub returns-then-run-clause-finished : goal.returns-then-run-clause-finished
+returns-then-run-clause-finished g c =
+    moves_finished c.loop-steps.invariant.moves (λ o. absurd (true≢false (sym c.if-run.true ∙ o)))
 
-pub returns-else-not-run-clause-output : goal.returns-else-not-run-clause-output
-returns-else-not-run-clause-output g c = moves_output c.loop-steps.invariant.moves
+pub returns-then-run-clause-output : goal.returns-then-run-clause-output
+returns-then-run-clause-output g c = moves_output c.loop-steps.invariant.moves
 
--- the counter is at its end
-pub returns-after-loop-steps-clause-finished : goal.returns-after-loop-steps-clause-finished
-returns-after-loop-steps-clause-finished g c = moves_finished c.loop-steps.invariant.moves (λ o. c.loop-steps-test.false)
+-- all steps were made
+pub returns-clause-finished : goal.returns-clause-finished
+returns-clause-finished g c = moves_finished c.loop-steps.invariant.moves (λ o. omega arith)
 
-pub returns-after-loop-steps-clause-output : goal.returns-after-loop-steps-clause-output
-returns-after-loop-steps-clause-output g c = moves_output c.loop-steps.invariant.moves
+pub returns-clause-output : goal.returns-clause-output
+returns-clause-output g c = moves_output c.loop-steps.invariant.moves

@@ -1,5 +1,4 @@
-use Rattle.std.proofs.Common.{◌≡◌, ◌-◌, ◌≤◌, length}
-use Rattle.probe.specs.Runs.{most_steps}
+use Rattle.std.proofs.Common.{◌≡◌, ◌≤◌, length}
 use Rattle.probe.proofs.Known.{Moves}
 use Rattle.probe.proofs.all_steps.Given as goal
 
@@ -12,7 +11,3 @@ invariant-loop-steps g l = record {
   moves : Moves l.steps l.run l.input (g.R.Read.remaining l.fn.stdin) (g.R.Read.remaining l.stdin)
       (g.W.Write.contents l.fn.stdout) (g.W.Write.contents l.stdout);
 }
-
--- what is left of the steps that it may make
-abbrev pub decreases-loop-steps : goal.decreases-loop-steps
-decreases-loop-steps g l = most_steps - l.steps

@@ -4,12 +4,12 @@ use Rattle.cabinet.proofs.Idle.{idle_stays}
 use Rattle.cabinet_passes.proofs.Turns.{step_turn, step_end}
 use Rattle.cabinet_passes.proofs.pass.cast_all.Goals as goal
 
-pub loop-i-preserved : goal.loop-i-preserved
-loop-i-preserved c =
-    let before = c.loop-i.invariant in
+pub loop-part-preserved : goal.loop-part-preserved
+loop-part-preserved c =
+    let before = c.loop-part.invariant in
     let done = c.cast_part-s in record {
       left =
-          step_turn _ _ _ _ _ _ _ _ _ _ c.loop-i-test.true before.list_long before.stack_long done.ensures.0
+          step_turn _ _ _ _ _ _ _ _ _ _ c.loop-part-test.true before.list_long before.stack_long done.ensures.0
           ∙ before.left;
       list_long = done.auto.list ∙ before.list_long;
       stack_long = done.auto.stack ∙ before.stack_long;
@@ -17,11 +17,10 @@ loop-i-preserved c =
           let still = before.kept idle in
           let same = done.ensures.1 still.0 in
           (ap is_idle done.ensures.0 ∙ idle_stays _ _ _ _ _ still.0, (same.0 ∙ still.1.0, same.1 ∙ still.1.1));
-      inside = omega arith;
     }
 
 pub returns : goal.returns
 returns c =
-    let before = c.loop-i.invariant in
-    let over : c.loop-i.i ≡ length c.args.parts.now = omega arith in
+    let before = c.loop-part.invariant in
+    let over : c.loop-part.part-index ≡ length c.args.parts.now = omega arith in
     (step_end _ _ _ _ _ _ over ∙ before.left, λ idle. (before.kept idle).1)

@@ -4,9 +4,9 @@ use Rattle.exact_triangle.specs.Line.{parts}
 use Rattle.wide_integers.proofs.Reading.{widen, product_size, difference_size}
 use Rattle.wide_integers.specs.Value.{value}
 use Rattle.wide_integers.specs.Sizes.{Sized}
-use lib.IntN.{ℤ, pos, ◌-ℤ◌, ◌*ℤ◌}
+use lib.IntN.{pos, ◌-ℤ◌, ◌*ℤ◌}
 use lib.Dec.{lit<, lit≤}
-use Prim.Native.Nat.{◌*◌, ◌^◌}
+use Prim.Native.Nat.{◌^◌}
 use mathlib.Core.Path.{◌≡◌, ◌∙◌}
 use borrow.Author.Rules.{rules}
 use Rattle.drill.proofs.corner.above.Statement.{statement}

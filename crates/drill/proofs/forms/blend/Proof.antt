@@ -4,9 +4,9 @@ use Rattle.wide_integers.proofs.OperationLaws.{middling, word_size}
 use Rattle.wide_integers.proofs.Reading.{widen, product_size, difference_size}
 use Rattle.wide_integers.specs.Value.{value}
 use Rattle.wide_integers.specs.Sizes.{Sized}
-use lib.IntN.{ℤ, ◌-ℤ◌, ◌*ℤ◌}
+use lib.IntN.{◌-ℤ◌, ◌*ℤ◌}
 use lib.Dec.{lit<, lit≤}
-use Prim.Native.Nat.{◌*◌, ◌^◌}
+use Prim.Native.Nat.{◌^◌}
 use mathlib.Core.Path.{◌≡◌, ◌∙◌}
 use Rattle.drill.proofs.forms.blend.Statement.{statement}
 use Rattle.drill.proofs.forms.blend.Tie as tie

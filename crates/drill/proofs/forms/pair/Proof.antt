@@ -3,7 +3,7 @@ use Rattle.drill.proofs.Laws.{fits_long}
 use Rattle.wide_integers.specs.LongValue.{long_value}
 use Rattle.wide_integers.proofs.Reading.{product_size, sum_size}
 use Rattle.wide_integers.specs.Value.{value}
-use lib.IntN.{ℤ, ◌+ℤ◌, ◌*ℤ◌}
+use lib.IntN.{◌+ℤ◌, ◌*ℤ◌}
 use lib.Dec.{lit<}
 use mathlib.Core.Path.{◌≡◌, ◌∙◌}
 use Rattle.drill.proofs.forms.pair.Statement.{statement}

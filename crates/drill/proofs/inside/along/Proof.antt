@@ -1,6 +1,6 @@
 -- `drill::inside::along` meets its contract. Assumes nothing.
 use Rattle.drill.proofs.Laws.{sized_as}
-use Rattle.drill.specs.Code.{way_of}
+use Rattle.drill.specs.Code.{vector_of}
 use Rattle.wide_integers.proofs.Reading.{bits, bits_back, widen, product_size, sum_size}
 use Rattle.wide_integers.proofs.Polynomials.{times_comm}
 use mir.Val.{SFits}
@@ -29,7 +29,7 @@ ordered a {x} f = (λ i. a *ℤ bits_back f i) ∙ times_comm a x
 returns : tie.Need-returns
 returns c =
     let s : tie.Start = search in
-    let g = way_of s.args.g in
+    let g = vector_of s.args.g in
     let p = s.requires.0 in
     let q = s.requires.1 in
     let e = c.weighted.ensures ∙ (λ i. ordered g.x (px s) i +ℤ ordered g.y (py s) i +ℤ ordered g.z (pz s) i) in (

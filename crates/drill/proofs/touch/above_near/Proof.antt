@@ -5,9 +5,9 @@ use Rattle.wide_integers.proofs.Reading.{widen, product_size, difference_size}
 use Rattle.wide_integers.proofs.Polynomials.{times_comm}
 use Rattle.wide_integers.specs.Value.{value}
 use Rattle.wide_integers.specs.Sizes.{Sized}
-use lib.IntN.{ℤ, ◌-ℤ◌, ◌*ℤ◌}
+use lib.IntN.{◌-ℤ◌, ◌*ℤ◌}
 use lib.Dec.{lit<, lit≤}
-use Prim.Native.Nat.{◌*◌, ◌^◌}
+use Prim.Native.Nat.{◌^◌}
 use mathlib.Core.Path.{◌≡◌, ◌∙◌}
 use Rattle.drill.proofs.touch.above_near.Statement.{statement}
 use Rattle.drill.proofs.touch.above_near.Tie as tie

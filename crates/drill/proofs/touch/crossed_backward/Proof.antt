@@ -17,10 +17,10 @@ use Rattle.drill.proofs.touch.crossed_backward.Tie as tie
 
 module _ (s : tie.Start) (l : Line) (ρ : ℕ) where
   abbrev near : Bool
-  near = near_of l ρ (from_axis_of s.args.a) (from_axis_of s.args.b) (from_axis_of s.args.c)
+  near = near_of l ρ (from_axis_of s.args.t.a) (from_axis_of s.args.t.b) (from_axis_of s.args.t.c)
 
   abbrev far : Bool
-  far = far_of l ρ (from_axis_of s.args.a) (from_axis_of s.args.b) (from_axis_of s.args.c)
+  far = far_of l ρ (from_axis_of s.args.t.a) (from_axis_of s.args.t.b) (from_axis_of s.args.t.c)
 
 returns : tie.Need-returns-then-is_positive
 returns c =

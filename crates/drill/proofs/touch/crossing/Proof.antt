@@ -10,7 +10,7 @@ use Rattle.wide_integers.specs.Value.{value}
 use Rattle.wide_integers.specs.Sizes.{Sized}
 use lib.IntN.{ℤ, pos, ◌+ℤ◌, ◌-ℤ◌, ◌*ℤ◌}
 use lib.Dec.{lit<, lit≤}
-use Prim.Native.Nat.{◌+◌, ◌*◌, ◌^◌}
+use Prim.Native.Nat.{◌*◌, ◌^◌}
 use mathlib.Core.Path.{ap, ◌∙◌}
 use borrow.Author.Rules.{rules}
 use Rattle.drill.proofs.touch.crossing.Statement.{statement}

@@ -13,15 +13,15 @@ use Rattle.drill.proofs.touch.far_cap.Tie as tie
 
 module _ (s : tie.Start) where
   abbrev A : FromAxis
-  A = from_axis_of s.args.a
+  A = from_axis_of s.args.t.a
 
   abbrev B : FromAxis
-  B = from_axis_of s.args.b
+  B = from_axis_of s.args.t.b
 
   abbrev C : FromAxis
-  C = from_axis_of s.args.c
+  C = from_axis_of s.args.t.c
 
-area : (s : tie.Start) → bits s.args.drill.area ≡ s.args.drill.area
+area : (s : tie.Start) → bits s.args.t.drill.area ≡ s.args.t.drill.area
 area s = plain (widen s.requires.0.0.area (lit≤ tt))
 
 abbrev begun : tie.After-frame_of-frame → tie.Start

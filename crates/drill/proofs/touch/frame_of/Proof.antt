@@ -1,5 +1,5 @@
 -- `drill::touch::frame_of` meets its contract. Assumes nothing.
-use Rattle.drill.specs.Code.{way_of, from_axis_of, level_of}
+use Rattle.drill.specs.Code.{vector_of, from_axis_of, level_of}
 use Rattle.drill.specs.Decision.{level}
 use Rattle.drill.specs.Drill.{dot, square}
 use Rattle.wide_integers.proofs.Reading.{plain, widen}
@@ -13,7 +13,7 @@ abbrev begun : tie.After-level-g → tie.Start
 begun k = search
 
 known : (k : tie.After-level-g) → let v = (begun k).args in
-    way_of k.level-g.result ≡ level_of (from_axis_of v.a) (from_axis_of v.b) (from_axis_of v.c)
+    vector_of k.level-g.result ≡ level_of (from_axis_of v.a) (from_axis_of v.b) (from_axis_of v.c)
 known k =
     let s = begun k in
     let v = s.args in

@@ -19,13 +19,13 @@ use Rattle.drill.proofs.touch.plane_in.Tie as tie
 
 module _ (s : tie.Start) where
   abbrev A : FromAxis
-  A = from_axis_of s.args.a
+  A = from_axis_of s.args.t.a
 
   abbrev B : FromAxis
-  B = from_axis_of s.args.b
+  B = from_axis_of s.args.t.b
 
   abbrev C : FromAxis
-  C = from_axis_of s.args.c
+  C = from_axis_of s.args.t.c
 
 crossing-requires : tie.Need-crossing-p-requires
 crossing-requires c κs =
@@ -39,7 +39,7 @@ abbrev begun : tie.After-crossing-p → tie.Start
 begun k = search
 
 -- what the crossing is, over the line and the radius
-module _ (k : tie.After-crossing-p) (l : Line) (ρ : ℕ) (o : Drills (begun k).args.drill l ρ) where
+module _ (k : tie.After-crossing-p) (l : Line) (ρ : ℕ) (o : Drills (begun k).args.t.drill l ρ) where
   abbrev a : Point
   a = (A (begun k)).at
 
@@ -86,7 +86,7 @@ module _ (k : tie.After-crossing-p) (l : Line) (ρ : ℕ) (o : Drills (begun k).
 abbrev pierced : tie.After-is_positive → tie.After-crossing-p
 pierced p = search
 
-above_as : (p : tie.After-is_positive) (l : Line) (ρ : ℕ) → let s = begun (pierced p) in Drills s.args.drill l ρ
+above_as : (p : tie.After-is_positive) (l : Line) (ρ : ℕ) → let s = begun (pierced p) in Drills s.args.t.drill l ρ
     → lt_z (pos 0) (whole_of l (A s) (B s) (C s)) ≡ p.is_positive.result
 above_as p l ρ o = sym (p.is_positive.ensures ∙ ap (λ (z : ℤ). lt_z (pos 0) z) (whole-as (pierced p) l ρ o))
 
@@ -121,7 +121,7 @@ returns c =
     (n.crossed_forward.ensures l ρ o low high ∙ (λ x. nearest_in (near k l ρ o) (far k l ρ o) (i x) (j x) (m x) (low x) (high x)))
 
 below_as : (q : tie.After-is_negative) → let p : tie.After-is_positive = search in let s = begun (pierced p) in
-    (l : Line) (ρ : ℕ) → Drills s.args.drill l ρ → lt_z (whole_of l (A s) (B s) (C s)) (pos 0) ≡ q.is_negative.result
+    (l : Line) (ρ : ℕ) → Drills s.args.t.drill l ρ → lt_z (whole_of l (A s) (B s) (C s)) (pos 0) ≡ q.is_negative.result
 below_as q =
     let p : tie.After-is_positive = search in
     λ l ρ o. sym (q.is_negative.ensures ∙ ap (λ (z : ℤ). lt_z z (pos 0)) (whole-as (pierced p) l ρ o))

@@ -1,18 +1,17 @@
 -- `exact_depth::coplanar_point::along` meets its contract. Assumes nothing.
+use Rattle.std.specs.Prelude.{None}
 use mathlib.Core.Path.{◌≡◌, refl, sym, ◌∙◌}
 use mathlib.Core.Bool.{Bool, true, false}
 use lib.IntN.{ℤ, pos}
 use mir.Syntax.{w64}
 use mir.Val.{SFits}
-use borrow.Author.Tests.{not-true, not-false}
 use Rattle.exact_depth.specs.declared.projection.Fraction.{Fraction}
-use Rattle.exact_depth.specs.declared.projection.Depth.TheVariants.{Miss}
 use Rattle.exact_depth.specs.declared.plane.PlanePoint.{PlanePoint}
 use Rattle.exact_depth.specs.declared.plane.Side.{Side}
 use Rattle.exact_depth.specs.FirstPoint.{kept, side_of, entering, inside, entry, along_plane}
 use Rattle.wide_integers.proofs.Reading.{taken, left, bits_back}
 use Rattle.wide_integers.specs.Value.{value}
-use Rattle.exact_depth.specs.Answer.{point_of, plane_depth_of}
+use Rattle.exact_depth.specs.Answer.{plane_depth_of}
 use Rattle.exact_depth.specs.Sizes.{Bounded, Shallow}
 use Rattle.exact_depth.proofs.Laws.{missed, finds_as, side_bounded, entering_shallow, start_shallow, word_told, word_middling}
 use borrow.Author.Rules.{rules}
@@ -74,7 +73,7 @@ entered a b c near d e g f₀ f₁ f₂ f₃ n p q r x y z =
     ∙ (λ i. entering (entering (entering (n i) (p i)) (side_of c a)) (side_of a b))
 
 abbrev entry_of : tie.Start → Fraction
-entry_of s = entry (point_of s.args.a) (point_of s.args.b) (point_of s.args.c) s.args.near
+entry_of s = entry s.args.a s.args.b s.args.c s.args.near
 
 abbrev begun : tie.After-entering-at → tie.Start
 begun m = search
@@ -84,7 +83,7 @@ entry-is m =
     let (s, d, e, g, o, k, l) : tie.Start × tie.After-side_of-first × tie.After-side_of-second × tie.After-side_of-third × tie.After-of_i64
     × tie.After-entering-once × tie.After-entering-twice = search in
     let v = s.args in
-    entered (point_of v.a) (point_of v.b) (point_of v.c) v.near _ _ _ (record { t = value o.of_i64.result; w = pos 1 }) _ _ _
+    entered v.a v.b v.c v.near _ _ _ (record { t = value o.of_i64.result; w = pos 1 }) _ _ _
     (λ i. record { t = (o.of_i64.ensures ∙ bits_back s.ranges.near) i; w = pos 1 }) d.side_of-first.ensures e.side_of-second.ensures
     g.side_of-third.ensures k.entering-once.ensures l.entering-twice.ensures m.entering-at.ensures
 
@@ -119,13 +118,13 @@ tested : (a b c : PlanePoint) (near : ℤ) (d e g : Side) (f : Fraction) (r x : 
 tested a b c near d e g f r x p q o z h t = (λ i. inside (sym p i) (sym q i) (sym o i) (sym z i)) ∙ sym h ∙ t
 
 test-told : (i : tie.After-inside) (x : Bool) → i.inside.result ≡ x → let s : tie.Start = search in
-    inside (side_of (point_of s.args.b) (point_of s.args.c)) (side_of (point_of s.args.c) (point_of s.args.a))
-    (side_of (point_of s.args.a) (point_of s.args.b)) (entry_of s) ≡ x
+    inside (side_of s.args.b s.args.c) (side_of s.args.c s.args.a)
+    (side_of s.args.a s.args.b) (entry_of s) ≡ x
 test-told i x t =
     let (s, d, e, g, m) : tie.Start × tie.After-side_of-first × tie.After-side_of-second × tie.After-side_of-third
     × tie.After-entering-at = search in
     let v = s.args in
-    tested (point_of v.a) (point_of v.b) (point_of v.c) v.near _ _ _ _ _ x d.side_of-first.ensures e.side_of-second.ensures
+    tested v.a v.b v.c v.near _ _ _ _ _ x d.side_of-first.ensures e.side_of-second.ensures
     g.side_of-third.ensures (entry-is m) i.inside.ensures t
 
 returns : tie.Need-returns-then-not-inside
@@ -139,7 +138,7 @@ unfolding along_plane
 returns-2 c =
     let (s, m, i, e, o) : tie.Start × tie.After-entering-at × tie.After-inside × tie.Else-not-inside × tie.After-of_i64-2 = search in
     finds_as c.kept.ensures
-    (taken Miss (test-told i true e.if-not-inside.false)
+    (taken None (test-told i true e.if-not-inside.false)
     ((λ j. kept (record { t = value m.entering-at.result.t; w = word_told (shallow₃ m).w o.of_i64-2.ensures j })
     (bits_back s.ranges.near j) (bits_back s.ranges.far j))
     ∙ (λ j. kept (entry-is m j) s.args.near s.args.far)))

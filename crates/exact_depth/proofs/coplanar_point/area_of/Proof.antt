@@ -7,8 +7,7 @@ use Rattle.wide_integers.specs.Determinant.{determinant}
 use Rattle.exact_depth.specs.FirstPoint.{area}
 use Rattle.wide_integers.proofs.Reading.{bits, fits, held_fit}
 use Rattle.wide_integers.specs.Value.{value, Weight}
-use Rattle.exact_depth.specs.declared.coplanar_point.Corner.{Corner}
-use Rattle.exact_depth.specs.Answer.{point_of}
+use Rattle.exact_depth.specs.declared.plane.PlanePoint.{PlanePoint}
 use Rattle.exact_depth.specs.Sizes.{Flat}
 use Rattle.exact_depth.proofs.Laws.{determinant_back, determinant_weight}
 use borrow.Author.Rules.{rules}
@@ -16,7 +15,7 @@ use Rattle.exact_depth.proofs.coplanar_point.area_of.Statement.{statement}
 use Rattle.exact_depth.proofs.coplanar_point.area_of.Tie as tie
 
 -- one turn, and its size
-module _ {p q : Corner} (h : Flat p) (g : Flat q) (d : SFits w64 p.depth) (f : SFits w64 q.depth) {x : ℤ}
+module _ {p q : PlanePoint} (h : Flat p) (g : Flat q) (d : SFits w64 p.depth) (f : SFits w64 q.depth) {x : ℤ}
     (e : x ≡ determinant (bits p.u) (bits p.depth) (bits q.u) (bits q.depth)) where
   told : x ≡ determinant p.u p.depth q.u q.depth
   told = determinant_back (fits (held_fit h.u)) d (fits (held_fit g.u)) f e
@@ -45,7 +44,7 @@ abbrev second-of : tie.After-determinant-third → tie.After-determinant-second
 second-of z = search
 
 abbrev area-as : tie.Start → ℤ
-area-as s = area (point_of s.args.a) (point_of s.args.b) (point_of s.args.c)
+area-as s = area s.args.a s.args.b s.args.c
 
 total-requires : tie.Need-total-requires
 total-requires c κs =

@@ -1,23 +1,22 @@
 -- `exact_depth::coplanar_point::coplanar` meets its contract. Assumes nothing.
+use Rattle.std.specs.Prelude.{None}
 use mathlib.Core.Path.{◌≡◌, sym, ◌∙◌, subst}
 use Rattle.exact_depth.specs.declared.projection.Projected.{Projected}
-use Rattle.exact_depth.specs.declared.projection.Depth.TheVariants.{Miss}
 use Rattle.exact_depth.specs.declared.plane.PlanePoint.{PlanePoint}
 use Rattle.wide_integers.specs.Sizes.{Sized61}
 use Rattle.exact_depth.specs.FirstPoint.{across_point, up_point, in_plane, coplanar}
 use Rattle.wide_integers.proofs.Reading.{bits_back}
-use Rattle.exact_depth.specs.declared.coplanar_point.Corner.{Corner}
-use Rattle.exact_depth.specs.Answer.{point_of}
+use Rattle.exact_depth.specs.declared.plane.PlanePoint.{PlanePoint}
 use Rattle.exact_depth.specs.Sizes.{Close, Flat}
 use Rattle.exact_depth.proofs.Laws.{finds_as}
 use borrow.Author.Rules.{rules}
 use Rattle.exact_depth.proofs.coplanar_point.coplanar.Statement.{statement}
 use Rattle.exact_depth.proofs.coplanar_point.coplanar.Tie as tie
 
-flat-across : (s : Projected) {p : Corner} → Close s → point_of p ≡ across_point s → Flat p
+flat-across : (s : Projected) {p : PlanePoint} → Close s → p ≡ across_point s → Flat p
 flat-across s h e = record { u = subst (λ (z : PlanePoint). Sized61 z.u) (sym e) h.across }
 
-flat_up : (s : Projected) {p : Corner} → Close s → point_of p ≡ up_point s → Flat p
+flat_up : (s : Projected) {p : PlanePoint} → Close s → p ≡ up_point s → Flat p
 flat_up s h e = record { u = subst (λ (z : PlanePoint). Sized61 z.u) (sym e) h.up }
 
 in-plane-requires : tie.Need-in_plane-upright-requires
@@ -57,7 +56,7 @@ returns c =
     ((λ i. in_plane (u.across_point.ensures i) (v.across_point-2.ensures i) (w.across_point-3.ensures i) (n i) (f i)
     (k.in_plane-upright.ensures.is i))
     ∙ (λ i. in_plane (across_point s.args.a) (across_point s.args.b) (across_point s.args.c) s.args.near s.args.far
-    (in_plane (x.up_point.ensures i) (y.up_point-2.ensures i) (z.up_point-3.ensures i) (n i) (f i) Miss)))
+    (in_plane (x.up_point.ensures i) (y.up_point-2.ensures i) (z.up_point-3.ensures i) (n i) (f i) None)))
 
 pub coplanar_spec : {M : Type 1} → statement M
 coplanar_spec =

@@ -1,12 +1,13 @@
 -- `exact_depth::coplanar_point::in_plane` meets its contract. Assumes nothing.
+use Rattle.std.specs.Prelude.{Option}
+use Rattle.exact_depth.specs.declared.projection.Fraction.{Fraction}
 use mathlib.Core.Path.{◌≡◌, refl, sym, ap, ◌∙◌}
 use mathlib.Core.Bool.{Bool, true, false, cond}
 use lib.IntN.{ℤ, pos}
 use lib.Signed.{lt_z}
-use Rattle.exact_depth.specs.declared.projection.Depth.{Depth}
 use Rattle.exact_depth.specs.FirstPoint.{area, along_plane, in_plane}
 use Rattle.wide_integers.proofs.Reading.{taken, left, bits_back}
-use Rattle.exact_depth.specs.Answer.{point_of, answer_of}
+use Rattle.exact_depth.specs.Answer.{answer_of}
 use Rattle.exact_depth.proofs.Laws.{finds_as}
 use borrow.Author.Rules.{rules}
 use Rattle.exact_depth.proofs.coplanar_point.in_plane.Statement.{statement}
@@ -14,7 +15,7 @@ use Rattle.exact_depth.proofs.coplanar_point.in_plane.Tie as tie
 
 -- what the tests of the area say
 abbrev area-as : tie.Start → ℤ
-area-as s = area (point_of s.args.a) (point_of s.args.b) (point_of s.args.c)
+area-as s = area s.args.a s.args.b s.args.c
 
 above : (p : tie.After-is_positive) (b : Bool) → p.is_positive.result ≡ b → let s : tie.Start = search in lt_z (pos 0) (area-as s) ≡ b
 above p b h =
@@ -27,11 +28,11 @@ below n b h =
     ap (λ (z : ℤ). lt_z z (pos 0)) (sym k.area_of-signed.ensures) ∙ sym n.is_negative.ensures ∙ h
 
 -- the two ways round
-abbrev one_way : tie.Start → Depth
-one_way s = along_plane (point_of s.args.a) (point_of s.args.b) (point_of s.args.c) s.args.near s.args.far
+abbrev one_way : tie.Start → Option Fraction
+one_way s = along_plane s.args.a s.args.b s.args.c s.args.near s.args.far
 
-abbrev other_way : tie.Start → Depth
-other_way s = along_plane (point_of s.args.a) (point_of s.args.c) (point_of s.args.b) s.args.near s.args.far
+abbrev other_way : tie.Start → Option Fraction
+other_way s = along_plane s.args.a s.args.c s.args.b s.args.near s.args.far
 
 returns : tie.Need-returns-then-is_positive
 unfolding in_plane
@@ -40,7 +41,7 @@ returns c =
     let v = s.args in
     finds_as c.along.ensures
     (taken (cond (lt_z (area-as s) (pos 0)) (other_way s) (answer_of v.other)) (above p true e.if-is_positive.true)
-    (λ i. along_plane (point_of v.a) (point_of v.b) (point_of v.c) (bits_back s.ranges.near i) (bits_back s.ranges.far i)))
+    (λ i. along_plane v.a v.b v.c (bits_back s.ranges.near i) (bits_back s.ranges.far i)))
 
 returns-2 : tie.Need-returns-then-is_negative
 unfolding in_plane
@@ -51,7 +52,7 @@ returns-2 c =
     finds_as c.along-then-is_negative.ensures
     (left (one_way s) (above p false e.if-is_positive.false)
     (taken (answer_of v.other) (below n true d.if-is_negative.true)
-    (λ i. along_plane (point_of v.a) (point_of v.c) (point_of v.b) (bits_back s.ranges.near i) (bits_back s.ranges.far i))))
+    (λ i. along_plane v.a v.c v.b (bits_back s.ranges.near i) (bits_back s.ranges.far i))))
 
 returns-3 : tie.Need-returns
 unfolding in_plane

@@ -3,7 +3,6 @@ use Rattle.std.proofs.Common.{◌≡◌, ℤ, ◌∙◌, lit≤, rules}
 use Rattle.wide_integers.specs.Sizes.{Sized}
 use Rattle.wide_integers.specs.Determinant.{determinant}
 use Rattle.wide_integers.proofs.Reading.{bits, plain, widen, sized_bits}
-use Rattle.exact_triangle.specs.Shear.{from}
 use Rattle.exact_triangle.proofs.Laws.{told_read, told_sized}
 use Rattle.exact_triangle.proofs.normal.cross_of.Statement.{statement}
 use Rattle.exact_triangle.proofs.normal.cross_of.Tie as tie

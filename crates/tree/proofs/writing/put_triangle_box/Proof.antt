@@ -4,7 +4,6 @@ use mathlib.Core.Bool.{false≢true}
 use Prim.Native.Nat.{◌*◌, ◌/◌}
 use lib.ListN.{length}
 use lib.Seq.{sets}
-use borrow.Author.Tests.{not-true, not-false}
 use Rattle.lists.proofs.JoinedTests.{and_not_first, and_not_second, and_both}
 use Rattle.geometry.specs.Box.{valid_box}
 use Rattle.geometry.specs.declared.aabb.Aabb.{Aabb}

@@ -6,7 +6,6 @@ use native.Mathlib.Nat.{pos_of_ne-zero}
 use native.Mathlib.Omega.{arith}
 use lib.ListN.{length, take, drop}
 use lib.Seq.{length-take-le, length_front}
-use borrow.Author.Tests.{not-false}
 use Rattle.lists.proofs.JoinedTests.{test_failed}
 use Rattle.tree.specs.Layout.{Areas, areas}
 use Rattle.tree.specs.Mesh.{Mesh, mesh}

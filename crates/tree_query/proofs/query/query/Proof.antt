@@ -87,9 +87,9 @@ returns-4 c =
 returns-5 : tie.Need-returns
 unfolding start
 returns-5 c =
-    let (e, w, k) : tie.Else-not-walk_fits × tie.After-walk-walked × tie.In-Count = search in (
+    let (e, w, k) : tie.Else-not-walk_fits × tie.After-walk-walked × tie.In-Some = search in (
       query_listed _ _ (tree (start e)) _ _ (valid e) (admitted e) (fits e) _ _ w.walk-walked.ensures.0 w.walk-walked.ensures.1
-          _ k.in-Count.is,
+          _ k.in-Some.is,
       λ failed. absurd (tests_passed _ _ (tree (start e)) _ _ (valid e) (admitted e) (fits e) failed),
     )
 

@@ -1,6 +1,6 @@
 -- `tree_query::query::walk_fits` meets its contract. Assumes nothing.
 use Rattle.tree_query.specs.Query.{walk_fits}
-use borrow.Author.Tests.{lt-leb, le-leb, not-true, not-false}
+use borrow.Author.Tests.{lt-leb, le-leb}
 use native.Mathlib.Numerals.{add-one}
 use mathlib.Core.Path.{sym}
 use borrow.Author.Rules.{rules}

@@ -4,7 +4,6 @@ use Rattle.tree_walk.proofs.Walks.{walks_none}
 use Rattle.tree_walk.proofs.Nodes.{touch_is}
 use Rattle.tree_walk.proofs.OpenNodes.{root_apart}
 use native.Mathlib.Omega.{arith}
-use borrow.Author.Tests.{not-true}
 use borrow.Author.Rules.{rules}
 use Rattle.tree_query.proofs.walk.gather.Statement.{statement}
 use Rattle.tree_query.proofs.walk.gather.Tie as tie

@@ -7,7 +7,6 @@ use Rattle.tree_walk.specs.Opening.{due}
 use Rattle.tree.specs.Layout.{Tree, tree_of}
 use mathlib.Core.Path.{◌∙◌}
 use native.Mathlib.Omega.{arith}
-use borrow.Author.Tests.{not-true, not-false}
 use borrow.Author.Rules.{rules}
 use Rattle.tree_walk.proofs.ahead.gather_ahead.Statement.{statement}
 use Rattle.tree_walk.proofs.ahead.gather_ahead.Tie as tie

@@ -1,6 +1,5 @@
 -- `tree_walk::ahead::open_branch` meets its contract. Assumes nothing.
 use Rattle.tree_walk.proofs.Children.{stopped_left, stopped_right, stopped_past, waits, children_tested}
-use borrow.Author.Tests.{not-true, not-false}
 use mathlib.Core.Path.{sym, ◌∙◌}
 use Prim.Native.Nat.{◌+◌, ◌*◌}
 use native.Mathlib.Omega.{arith}

@@ -29,8 +29,8 @@ returns c =
 -- a leaf: its triangles are listed
 returns-2 : tie.Need-returns-then-kind-eq0
 returns-2 c =
-    let (s, w, k, l, f) : tie.Start × tie.After-word_at-kind × tie.Then-kind-eq0 × tie.After-at_leaf-leaf × tie.In-Count = search in
-    open_leaf_listed _ _ _ _ _ _ _ _ _ s.requires _ w.word_at-kind.ensures k.if-kind-eq0.true _ _ l.at_leaf-leaf.ensures _ f.in-Count.is _
+    let (s, w, k, l, f) : tie.Start × tie.After-word_at-kind × tie.Then-kind-eq0 × tie.After-at_leaf-leaf × tie.In-Some = search in
+    open_leaf_listed _ _ _ _ _ _ _ _ _ s.requires _ w.word_at-kind.ensures k.if-kind-eq0.true _ _ l.at_leaf-leaf.ensures _ f.in-Some.is _
     c.next_open.ensures
 
 -- neither leaf nor branch

@@ -1,6 +1,5 @@
 -- `tree_walk::step::at_branch` meets its contract. Assumes nothing.
 use Rattle.tree_walk.proofs.Branches.{left_unfit, right_unfit, right_pushed}
-use borrow.Author.Tests.{not-true, not-false}
 use mathlib.Core.Path.{sym, ◌∙◌}
 use Prim.Native.Nat.{◌+◌, ◌*◌}
 use native.Mathlib.Omega.{arith}

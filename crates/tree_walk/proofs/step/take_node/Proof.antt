@@ -1,7 +1,6 @@
 -- `tree_walk::step::take_node` meets its contract. Assumes nothing.
 use Rattle.tree_walk.proofs.Nodes.{touch_is, rest_below, node_boxed, node_worded, node_missed, kind_unknown, leaf_broken}
 use Rattle.tree_walk.proofs.Nodes.{leaf_listed, branch_taken}
-use borrow.Author.Tests.{not-true, not-false}
 use native.Mathlib.Omega.{arith}
 use borrow.Author.Rules.{rules}
 use Rattle.tree_walk.proofs.step.take_node.Statement.{statement}
@@ -46,11 +45,11 @@ returns-3 : tie.Need-returns-then-kind-eq0
 returns-3 c =
     let (start, at-box-at, at-touches, else1, at-word-at, then2, at-at-leaf, at_leaf) :
     tie.Start × tie.After-box_at × tie.After-touches × tie.Else-not-touches × tie.After-word_at-kind × tie.Then-kind-eq0
-    × tie.After-at_leaf-leaf × tie.In-Count =
+    × tie.After-at_leaf-leaf × tie.In-Some =
     search in
     leaf_listed _ _ _ _ _ _ _ _ start.requires (touch_is _ _ _ _ at-touches.touches.ensures at-box-at.box_at.ensures _
     else1.if-not-touches.false) _ at-word-at.word_at-kind.ensures then2.if-kind-eq0.true _ _
-    at-at-leaf.at_leaf-leaf.ensures _ at_leaf.in-Count.is _ c.pop-then-kind-eq0.ensures
+    at-at-leaf.at_leaf-leaf.ensures _ at_leaf.in-Some.is _ c.pop-then-kind-eq0.ensures
 
 returns-4 : tie.Need-returns-then-kind-ne1
 returns-4 c =

@@ -3,7 +3,6 @@ use Rattle.tree_walk.proofs.Places.{place_outside, place_missed, place_full, pla
 use Rattle.geometry.specs.Box.{touches}
 use Rattle.geometry.specs.declared.aabb.Aabb.{Aabb}
 use native.Mathlib.Omega.{arith}
-use borrow.Author.Tests.{not-true, not-false}
 use mathlib.Core.Path.{◌∙◌, sym, ap}
 use borrow.Author.Rules.{rules}
 use Rattle.tree_walk.proofs.step.take_place.Statement.{statement}

@@ -2,9 +2,9 @@
 use Rattle.wide_integers.proofs.LongLaws.{medium_fits, medium_is, two_words_rep}
 use Rattle.wide_integers.specs.Triples.{Words}
 use Rattle.wide_integers.proofs.OperationLaws.{flag_word, middling, middling_most, middling_least}
-use Rattle.wide_integers.specs.Value.{base, half, value, Middling}
+use Rattle.wide_integers.specs.Value.{base, half, Middling}
 use Rattle.wide_integers.specs.Sizes.{Sized}
-use Rattle.std.proofs.Common.{ℕ, ◌+◌, ◌-◌, ◌*◌, ◌/◌, ◌^◌, ◌<◌, ◌≤◌, ℤ, arith, lit<, rules}
+use Rattle.std.proofs.Common.{ℕ, ◌-◌, ◌/◌, ◌^◌, ◌<◌, ◌≤◌, ℤ, arith, lit<, rules}
 use Rattle.wide_integers.proofs.long.pair_product.Statement.{statement}
 use Rattle.wide_integers.proofs.long.pair_product.Tie as tie
 
@@ -54,7 +54,7 @@ quotient n h = omega (arith, h)
 mul-t10 : tie.Need-overflow_mul-result
 mul-t10 c =
     let w : tie.After-subtract_pair-twice = search in
-    record { fits = flag_word (quotient w.subtract_pair-twice.result.high w.subtract_pair-twice.ensures.high) (omega arith) }
+    record { fits = flag_word (quotient w.subtract_pair-twice.result.words.high w.subtract_pair-twice.ensures.high) (omega arith) }
 
 returns : tie.Need-returns
 returns c =

@@ -42,6 +42,6 @@ product_spec =
     (search rules)  -- subtract-once-requires
     mul-subtract-2
     (search rules)  -- subtract-twice-requires
-    (λ c. let (o, t) : tie.After-subtract-once × tie.After-subtract-twice = search in quotient t.subtract-twice.result.word
+    (λ c. let (o, t) : tie.After-subtract-once × tie.After-subtract-twice = search in quotient t.subtract-twice.result.words
     t.subtract-twice.ensures.word)  -- overflow_sub-result
     returns)

@@ -1,0 +1,5 @@
+-- `exports::near::probe_ray_height_field_near` meets its contract. Assumes nothing.
+use Rattle.exports.proofs.near.probe_ray_height_field_near.Goals as goal
+
+pub returns : goal.returns
+returns c = c.answer_height_field.ensures
