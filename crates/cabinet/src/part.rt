@@ -110,7 +110,7 @@ pub struct State {
     pub at: Progress,
 }
 
-// What the first pass goes by: the lengths of the lent areas, and the lowest refusal so far. Numbers alone, so that they stay in registers.
+// What the first pass goes by: the lengths of the lent areas, and the lowest refusal so far.
 #[derive(Clone, Copy)]
 pub struct Look {
     pub areas: Lengths,

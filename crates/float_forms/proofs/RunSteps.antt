@@ -13,12 +13,12 @@ use Rattle.lists.proofs.JoinedTests.{and_first, and_second}
 use Rattle.lists.proofs.Runs.{sets_append}
 use Rattle.float_forms.specs.declared.forms.Form.{Form}
 use Rattle.float_forms.specs.Forms.{size_of, format_of}
-use Rattle.float_forms.specs.Bytes.{word_of, pattern_bytes, number_of, number_bytes, numbers_of, numbers_bytes, words_of}
+use Rattle.float_forms.specs.Bytes.{word_of, word_bytes, pattern_bytes, number_of, number_bytes, numbers_of, numbers_bytes, words_of}
 use Rattle.float_forms.specs.Bytes.{words_bytes}
 use Rattle.float_forms.specs.Representable.{every, fits_in, representable}
 use borrow.Rule.Slice.PartMut.{put_mid}
 use Rattle.float_forms.specs.Bytes.{IsBytes}
-use Rattle.float_forms.proofs.Numbers.{drop_bytes, number_length}
+use Rattle.float_forms.proofs.Numbers.{drop_bytes, word_length, number_length}
 use Rattle.float_forms.proofs.RunLaws.{words_bytes_lem}
 
 less_one : (k : ℕ) → suc k - 1 ≡ k
@@ -172,6 +172,39 @@ module _ (p q : Form) (l whole : List ℕ) (size : ℕ) where
   unfolding numbers_of numbers_bytes
   write_done out from to zero g s = s.same
   write_done out from to (suc k) g s = absurd (omega (arith, g))
+
+-- ---- writing u32
+
+pub record Copying (l whole : List ℕ) (size : ℕ) (out : List ℕ) (from to left : ℕ) : Type 0 where
+  pub enough : from + 4 * left ≤ length l
+  pub room : to + 4 * left ≤ length out
+  pub kept : length out ≡ size
+  pub same : sets out to (words_bytes (words_of left (drop from l))) ≡ whole
+
+module _ (l whole : List ℕ) (size : ℕ) where
+  pub copy_next : (out after : List ℕ) (from to left word : ℕ) → 0 < left → Copying l whole size out from to left
+      → word ≡ word_of (drop from l) → after ≡ sets out to (word_bytes word) → Copying l whole size after (from + 4) (to + 4) (left - 1)
+  unfolding words_of words_bytes
+  copy_next out after from to zero word g s e f = absurd (omega (arith, g))
+  copy_next out after from to (suc k) word g s e f =
+      let w = word_of (drop from l) in
+      let rest = words_of k (drop (from + 4) l) in
+      let long : length after ≡ length out = rw f (length-sets out to (word_bytes word)) in
+      let here : drop 4 (drop from l) ≡ drop (from + 4) l = drop-drop 4 from l in
+      let put : after ≡ sets out to (word_bytes w) = rw e at f in
+      let all : sets out to (word_bytes w ++ words_bytes rest) ≡ whole = rw here at s.same in
+      let step : to + 4 ≡ to + length (word_bytes w) = ap (λ (n : ℕ). to + n) (sym (word_length w)) in
+      rw (less_one k) record {
+        enough = omega (arith, s.enough);
+        room = rw long (omega (arith, s.room));
+        kept = long ∙ s.kept;
+        same = rw (put, step) (sym (sets_append out to (word_bytes w) (words_bytes rest)) ∙ all);
+      }
+
+  pub copy_done : (out : List ℕ) (from to left : ℕ) → left ≤ 0 → Copying l whole size out from to left → out ≡ whole
+  unfolding words_of words_bytes
+  copy_done out from to zero g s = s.same
+  copy_done out from to (suc k) g s = absurd (omega (arith, g))
 
 -- ---- copying u32
 

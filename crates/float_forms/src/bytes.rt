@@ -50,8 +50,7 @@ pub fn number_at(form: Form, bytes: &[u8], place: usize) -> f64
     ensures { result ≡ number_of form (drop place bytes.now) }
 {
     match form {
-        Form::First => long_at(bytes, place),
-        Form::Long => long_at(bytes, place),
+        Form::First | Form::Long => long_at(bytes, place),
         Form::Short => short_at(bytes, place),
     }
 }
@@ -85,8 +84,7 @@ pub fn put_pattern(form: Form, out: &mut [u8], place: usize, bits: u64)
     ensures { out.new ≡ sets out.old place (pattern_bytes form bits) }
 {
     match form {
-        Form::First => put_long(out, place, bits),
-        Form::Long => put_long(out, place, bits),
+        Form::First | Form::Long => put_long(out, place, bits),
         Form::Short => put_word(out, place, bits),
     }
 }

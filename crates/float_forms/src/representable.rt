@@ -33,8 +33,7 @@ pub fn pattern_for(form: Form, x: f64) -> Option<u64>
     ensures { result ≡ pattern_for form x }
 {
     match form {
-        Form::First => long_for(x),
-        Form::Long => long_for(x),
+        Form::First | Form::Long => long_for(x),
         Form::Short => short_for(x),
     }
 }
@@ -52,8 +51,7 @@ fn nan_bits(form: Form) -> u64
     ensures { result ≡ to_bits (format_of form) nan }
 {
     match form {
-        Form::First => 0x7ff8_0000_0000_0000,
-        Form::Long => 0x7ff8_0000_0000_0000,
+        Form::First | Form::Long => 0x7ff8_0000_0000_0000,
         Form::Short => 0x7fc0_0000,
     }
 }

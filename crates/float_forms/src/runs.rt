@@ -71,5 +71,7 @@ pub fn put_words(source: &[u8], place: usize, count: usize, out: &mut [u8], at: 
     requires { (place + 4 * count ≤ length source.now) × (at + 4 * count ≤ length out.old) }
     ensures { out.new ≡ sets out.old at (words_bytes (words_of count (drop place source.now))) }
 {
-    out[at..at + 4 * count].copy_from_slice(&source[place..place + 4 * count]);
+    for i in 0..count {
+        bytes::put_word(out, at + 4 * i, bytes::word_at(source, place + 4 * i));
+    }
 }

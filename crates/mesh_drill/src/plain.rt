@@ -32,7 +32,7 @@ fn over_triangles(ray: Ray, radius: f64, vertices: &[f64], triangles: &[u32]) ->
         body.radius,
     );
     let mut codes = [0u64; 32];
-    let coded = boxes::put_codes(&mut codes, around, vertices);
+    let coded = boxes::coded(&mut codes, around, vertices);
     pass::first_touched(drill, around, coded, vertices, triangles)
 }
 

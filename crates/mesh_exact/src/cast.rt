@@ -33,7 +33,7 @@ fn over_triangles(
         return Err(Refusal::OutOfBounds);
     }
     let mut codes = [0u64; 32];
-    let coded = boxes::put_codes(&mut codes, bounds, vertices);
+    let coded = boxes::coded(&mut codes, bounds, vertices);
     let Some(winner) = noted::winner_of(line, bounds, vertices, triangles, within, coded)? else {
         return Ok(None);
     };

@@ -129,18 +129,28 @@ fn code_of(bounds: Aabb, vertex: Vec3) -> u64
     (z * 4 + y) * 4 + x
 }
 
-// On which sides of a box each vertex lies, where there is a place for each.
-pub fn put_codes<'a>(codes: &'a mut [u64], bounds: Aabb, vertices: &[f64]) -> Option<&'a [u64]>
-    ensures { IfSome result (λ told. Coded bounds vertices.now told.now) }
+// On which sides of a box each vertex lies, where there is a place for each; after a no the places may hold anything.
+pub fn put_codes(codes: &mut [u64], bounds: Aabb, vertices: &[f64]) -> bool
+    ensures { result ≡ true → Coded bounds vertices.now codes.new }
 {
     let limit = vertices.len() / 3;
     if limit > codes.len() {
-        return None;
+        return false;
     }
     for i in 0..limit {
         codes[i] = code_of(bounds, layout::vector_at(vertices, 3 * i));
     }
-    Some(codes)
+    true
+}
+
+// The codes in these places, where there is a place for each vertex.
+pub fn coded<'a>(codes: &'a mut [u64], bounds: Aabb, vertices: &[f64]) -> Option<&'a [u64]>
+    ensures { IfSome result (λ told. Coded bounds vertices.now told.now) }
+{
+    if put_codes(codes, bounds, vertices) {
+        return Some(codes);
+    }
+    None
 }
 
 // Whether a triangle's box touches, by its vertices' codes: it does not where all three lie on one side.
@@ -161,7 +171,9 @@ pub fn codes_touch(
     first & second & third == 0
 }
 
-// The same, by the codes where there are any, else by the corners.
+// The same, by the codes where there are any, else by the corners. It is compiled into each of its users, so that the loop over the triangles
+// is made once with codes and once without.
+#[inline(always)]
 pub fn triangle_touches(
     codes: Option<&[u64]>,
     bounds: Aabb,

@@ -49,7 +49,7 @@ fn over_triangles(ray: Ray, bounds: Aabb, vertices: &[f64], triangles: &[u32]) -
         return Err(Refusal::OutOfBounds);
     }
     let mut codes = [0u64; 32];
-    let told = boxes::put_codes(&mut codes, bounds, vertices);
+    let told = boxes::coded(&mut codes, bounds, vertices);
     cast_all(ray, bounds, vertices, triangles, told)
 }
 

@@ -54,7 +54,8 @@ fn nearer(best: IndexedHit, index: u32, cast: Cast) -> IndexedCast
     Ok(Some(best))
 }
 
-// What was found so far and one more triangle's answer; the first refusal stays.
+// What was found so far and one more triangle's answer; the first refusal stays. It is compiled into each of its users.
+#[inline(always)]
 #[tactic(auto, unfolding(crate::specs::Nearest::next_of))]
 pub fn next(best: IndexedCast, index: u32, cast: Cast) -> IndexedCast
     ensures { says_indexed result ≡ next_of (says_indexed best) index (says cast) }

@@ -5,9 +5,9 @@
 // The mesh cast's number where a result slice is too short.
 pub mod short;
 
-ghost use Rattle.std.specs.Prelude.{◌≡◌, cond, [], ◌∷◌, ◌≤◌, length};
+ghost use Rattle.std.specs.Prelude.{◌≡◌, cond, [], ◌∷◌, ◌≤◌, length, Ok};
 ghost use Rattle.std.proofs.lemmas.List.Edits.{sets};
-ghost use Rattle.casts.specs.Answer.{says, bad_shape, no_room};
+ghost use Rattle.casts.specs.Answer.{says, refused, number_of, bad_shape, no_room};
 ghost use Rattle.nearest_hit.specs.Nearest.{says_indexed};
 ghost use Rattle.tree.specs.Mesh.{lengths_admitted};
 ghost use Rattle.tree_build.specs.Build.{says as saysBuilt};
@@ -16,7 +16,7 @@ ghost use Rattle.tree_query.specs.Query.{says_listed};
 ghost use Rattle.results.specs.Results.{ray_from, short_number, answered};
 ghost use Rattle.results.specs.Results.{returned_indexed, returned_nodes, returned_found, returned_verdict};
 
-use casts::answer::{Cast, Refusal};
+use casts::answer::{Cast, Hit, Refusal};
 use geometry::ray::Ray;
 use nearest_hit::nearest::IndexedCast;
 use tree::mesh as lengths;
@@ -76,38 +76,41 @@ pub fn put_hit(hit: &mut [f64], normal: Vec3, distance: f64)
     hit[3] = distance;
 }
 
-// The number where the hit slice is too short: refusals 1 and 2 go before 3.
-#[tactic(auto, unfolding(crate::specs::Results::short_number))]
-fn short_number(answer: Cast) -> u32
-    ensures { result ≡ short_number (says answer) }
+// A refusal's number; where the hit slice is too short, 1 and 2 go before 3.
+#[tactic(auto, unfolding(crate::specs::Results::answered, crate::specs::Results::returned, crate::specs::Results::short_number))]
+fn put_refusal(refusal: Refusal, hit: &[f64]) -> u32
+    ensures { record { number = result; hit = hit.now } ≡ answered (refused (number_of refusal)) hit.now }
 {
-    match answer {
-        Ok(_) => Refusal::NoRoom.into(),
-        Err(refusal) => {
-            let number = u32::from(refusal);
-            if number > u32::from(Refusal::BadShape) {
-                return Refusal::NoRoom.into();
-            }
-            number
-        }
+    let number = u32::from(refusal);
+    if hit.len() < 4 && number > u32::from(Refusal::BadShape) {
+        return Refusal::NoRoom.into();
     }
+    number
 }
 
-// An answer as its number, a hit's values written; a result slice that is too short is refused.
-#[tactic(auto, unfolding(crate::specs::Results::answered, crate::specs::Results::returned))]
+// A hit's values written, or none; a slice that is too short is refused.
+#[tactic(auto, unfolding(crate::specs::Results::answered, crate::specs::Results::returned, crate::specs::Results::short_number))]
+fn put_found(found: Option<Hit>, hit: &mut [f64]) -> u32
+    ensures { record { number = result; hit = hit.new } ≡ answered (says (Ok found)) hit.old }
+{
+    if hit.len() < 4 {
+        return Refusal::NoRoom.into();
+    }
+    let Some(surface) = found else {
+        return NONE;
+    };
+    put_hit(hit, surface.normal, surface.distance);
+    HIT
+}
+
+// An answer as its number, a hit's values written; a result slice that is too short is refused. The refusals go first: one of a cast's first
+// tests leaves at once.
 pub fn put_answer(answer: Cast, hit: &mut [f64]) -> u32
     ensures { record { number = result; hit = hit.new } ≡ answered (says answer) hit.old }
 {
-    if hit.len() < 4 {
-        return short_number(answer);
-    }
     match answer {
-        Ok(Some(surface)) => {
-            put_hit(hit, surface.normal, surface.distance);
-            HIT
-        }
-        Ok(None) => NONE,
-        Err(refusal) => refusal.into(),
+        Ok(found) => put_found(found, hit),
+        Err(refusal) => put_refusal(refusal, hit),
     }
 }
 

@@ -10,7 +10,9 @@ pub fn copy_numbers(from: &[f64], count: usize, area: &mut [f64], place: usize)
     requires { (count ≤ length from.now) × (place + count ≤ length area.old) }
     ensures { area.new ≡ sets area.old place (take count from.now) }
 {
-    area[place..place + count].copy_from_slice(&from[..count]);
+    for i in 0..count {
+        area[place + i] = from[i];
+    }
 }
 
 // The first words of a slice, moved up, from a place of the area on.

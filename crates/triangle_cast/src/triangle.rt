@@ -33,7 +33,8 @@ fn size_from_one(v: Vec3) -> f64
     at_least_size(at_least_size(at_least_size(1.0, v.x), v.y), v.z)
 }
 
-// Whether the determinant is too small for the edges' scale.
+// Whether the determinant is too small for the edges' scale. It is compiled into each of its users, since it stands in every cast.
+#[inline(always)]
 #[tactic(auto, using(crate::proofs::FlatLaws::flat_by_size))]
 pub fn is_flat(determinant: f64, a: Vec3, b: Vec3) -> bool
     ensures { result ≡ flat determinant a b }
@@ -135,7 +136,7 @@ pub fn settled(
 // direction's dot with the edges' cross, and so tells beforehand whether the normal is to be flipped.
 #[inline(always)]
 #[tactic(auto, unfolding(crate::specs::Triangle::triangle_normal))]
-fn normal_by(ray: Ray, determinant: f64, a: Vec3, b: Vec3, distance: f64) -> Cast
+pub fn normal_by(ray: Ray, determinant: f64, a: Vec3, b: Vec3, distance: f64) -> Cast
     ensures { says result ≡ triangle_normal ray a b distance }
 {
     let Some(normal) = a.cross(b).normalize() else {

@@ -1,10 +1,20 @@
--- The bytes copied are those of the words read.
-use Rattle.std.proofs.Common.{arith}
-use Rattle.float_forms.proofs.RunSteps.{words_copied}
+-- Each turn writes the next u32.
+use Rattle.std.proofs.Common.{refl, arith}
+use Rattle.float_forms.proofs.RunSteps.{first_place, all_left, next_place, one_less, copy_next, copy_done}
 use Rattle.float_forms.proofs.runs.put_words.Goals as goal
 
+pub loop-i-init : goal.loop-i-init
+loop-i-init c = rw (first_place c.args.place 4, first_place c.args.at 4, all_left) record {
+  enough = c.requires.0;
+  room = c.requires.1;
+  kept = refl;
+  same = refl;
+}
+
+pub loop-i-preserved : goal.loop-i-preserved
+loop-i-preserved c =
+    rw (next_place c.args.place 4, next_place c.args.at 4, one_less)
+    (copy_next c.args.source.now _ _ _ _ _ _ _ _ (omega arith) c.loop-i.invariant c.word_at.ensures.0 c.put_word.ensures)
+
 pub returns : goal.returns
-returns c =
-    words_copied c.args.source.now c.args.out.now _ c.args.place c.args.at c.args.count
-    record { below = λ i. omega (arith, c.type_inv.source i) } c.requires.0
-    c.requires.1 c.copy_from_slice.ensures.after
+returns c = copy_done c.args.source.now _ _ _ _ _ _ (omega arith) c.loop-i.invariant

@@ -16,7 +16,7 @@ drill_of-drill-requires c =
     )
 
 pub first_touched-requires : goal.first_touched-requires
-first_touched-requires c = (triangles_few _ _ c.requires.1.0, (c.drill_of-drill.ensures.0, (c.requires.1.1, c.put_codes-coded.ensures)))
+first_touched-requires c = (triangles_few _ _ c.requires.1.0, (c.drill_of-drill.ensures.0, (c.requires.1.1, c.coded-coded.ensures)))
 
 pub returns : goal.returns
 returns c =

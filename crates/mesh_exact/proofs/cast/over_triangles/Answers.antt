@@ -25,7 +25,7 @@ winner_of-requires c = (
   c.requires.0,
   (
     c.requires.1.casts.shown.view_sized,
-    (c.boxes_hold.ensures.boxes_hold c.if-not-boxes_hold.false, (c.all_within-within.ensures, c.put_codes-coded.ensures)),
+    (c.boxes_hold.ensures.boxes_hold c.if-not-boxes_hold.false, (c.all_within-within.ensures, c.coded-coded.ensures)),
   ),
 )
 

@@ -13,4 +13,4 @@ loop-i-preserved c =
     c.vector_at.ensures _ c.code_of.ensures
 
 pub returns : goal.returns
-returns c = coding_ends _ _ _ _ _ c.loop-i.invariant (omega arith) c.if-limit-codes.false
+returns c = λ _. coding_ends _ _ _ _ _ c.loop-i.invariant (omega arith) c.if-limit-codes.false

@@ -10,4 +10,4 @@ returns-then-not-boxes_hold c =
     (c.boxes_hold.ensures.triangles_value c.if-not-boxes_hold.true)
 
 pub cast_all-requires : goal.cast_all-requires
-cast_all-requires c = (c.requires, (c.boxes_hold.ensures.boxes_hold c.if-not-boxes_hold.false, c.put_codes-told.ensures))
+cast_all-requires c = (c.requires, (c.boxes_hold.ensures.boxes_hold c.if-not-boxes_hold.false, c.coded-told.ensures))
