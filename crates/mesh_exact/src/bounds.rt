@@ -85,8 +85,8 @@ fn high_corner(o: Point, d: Point, near: i64, far: i64, width: i64) -> Vec3
     }
 }
 
-// The box of a segment on the grid, wider by a width on each side: for the exact cast it is a unit, for a drill the radius and a unit. It is
-// compiled into both.
+// The box of a segment on the grid, wider by a width on each side: for the exact cast it is a unit, for a drill the radius and a unit.
+// It is compiled into both.
 #[inline(always)]
 pub fn widened_box(o: Point, d: Point, near: i64, far: i64, width: i64) -> Aabb
     requires { (Near o × DirectionSized d) × (Sized 1073741824 near × (Sized 1073741824 far × Sized 4194305 width)) }

@@ -171,8 +171,8 @@ pub fn codes_touch(
     first & second & third == 0
 }
 
-// The same, by the codes where there are any, else by the corners. It is compiled into each of its users, so that the loop over the triangles
-// is made once with codes and once without.
+// The same, by the codes where there are any, else by the corners. It is compiled into each of its users, so that the loop over the
+// triangles is made once with codes and once without.
 #[inline(always)]
 pub fn triangle_touches(
     codes: Option<&[u64]>,

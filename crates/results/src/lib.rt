@@ -103,8 +103,8 @@ fn put_found(found: Option<Hit>, hit: &mut [f64]) -> u32
     HIT
 }
 
-// An answer as its number, a hit's values written; a result slice that is too short is refused. The refusals go first: one of a cast's first
-// tests leaves at once.
+// An answer as its number, a hit's values written; a result slice that is too short is refused. The refusals go first: one of a cast's
+// first tests leaves at once.
 pub fn put_answer(answer: Cast, hit: &mut [f64]) -> u32
     ensures { record { number = result; hit = hit.new } ≡ answered (says answer) hit.old }
 {
