@@ -43,11 +43,11 @@ listed_below list found inside n i a h =
     rw (get_or-take found list i 0 h) at (every_at n i (take found list) a k)
 
 -- a number of a list's first places
-pub taken_at : (list : List ℕ) (found i : ℕ) → found ≤ length list → i < length (take found list)
-    → (i < found) × (get_or (take found list) i 0 ≡ get_or list i 0)
-taken_at list found i inside h =
-    let below : i < found = omega (arith, length-take-le found list inside) in
-    (below, get_or-take found list i 0 below)
+pub taken_at : (list : List ℕ) (bound i : ℕ) → i < length (take bound list) → bound ≤ length list
+    → (i < bound) × (get_or (take bound list) i 0 ≡ get_or list i 0)
+taken_at list bound i h inside =
+    let below : i < bound = omega (arith, length-take-le bound list inside) in
+    (below, get_or-take bound list i 0 below)
 
 each_below : (n : ℕ) (l : List ℕ) → all_below n l ≡ true → Each (λ (i : ℕ). i < n) l
 unfolding every
