@@ -29,16 +29,19 @@ pub fn read_words(source: &[u8], place: usize, count: usize, out: &mut [u32])
     }
 }
 
-// Whether the form q represents each of so many floats of the form p, from a place on.
+// Whether the form q represents each of so many floats of the form p, from a place on. The place moves on by a float's size, here and in
+// the function below: by the product of the size and the index a converter took a quarter more of its time.
 pub fn floats_representable(p: Form, q: Form, source: &[u8], place: usize, count: usize) -> bool
     requires { place + size_of p * count ≤ length source.now }
     ensures { result ≡ every (representable q) (numbers_of p count (drop place source.now)) }
 {
     let size = p.size_of();
+    let mut from = place;
     for i in 0..count {
-        if !representable::is_representable(q, bytes::number_at(p, source, place + size * i)) {
+        if !representable::is_representable(q, bytes::number_at(p, source, from)) {
             return false;
         }
+        from += size;
     }
     true
 }
@@ -60,9 +63,13 @@ pub fn put_floats(
 {
     let size = p.size_of();
     let step = q.size_of();
+    let mut from = place;
+    let mut to = at;
     for i in 0..count {
-        let bits = representable::bits_for(q, bytes::number_at(p, source, place + size * i));
-        bytes::put_pattern(q, out, at + step * i, bits);
+        let bits = representable::bits_for(q, bytes::number_at(p, source, from));
+        bytes::put_pattern(q, out, to, bits);
+        from += size;
+        to += step;
     }
 }
 
