@@ -47,7 +47,9 @@ pub fn corners_read(corners: [Vec3; 3]) -> bool
     grid::all_within(grid::FURTHEST, corners[2])
 }
 
-// The corners on the grid, where each is within 8,192 mm.
+// The corners on the grid, where each is within 8,192 mm. It is compiled into each of its users: what it gives is read at once, and a call
+// would hand it over in memory.
+#[inline(always)]
 fn grid_corners(corners: [Vec3; 3]) -> Option<GridCorners>
     ensures { ReadOnGrid corners result }
 {

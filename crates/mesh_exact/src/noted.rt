@@ -2,7 +2,7 @@ ghost use Rattle.std.specs.Prelude.{◌≡◌, true, false, ◌||◌, not, ◌+�
 ghost use Rattle.geometry.specs.Box.{corners_box, touches};
 ghost use Rattle.geometry.specs.declared.ray.Ray.{Ray as AnyRay};
 ghost use Rattle.casts.specs.Reach.{reach_of, says_reach};
-ghost use Rattle.nearest_hit.specs.Summary.{says_outcome};
+ghost use Rattle.nearest_hit.specs.Summary.{note_of, says_nearest_so_far, says_outcome};
 ghost use Rattle.tree.specs.Mesh.{mesh, thirds, corners_inside, corners_of, triangles_fit};
 ghost use Rattle.mesh_plain.specs.Boxes.{BoxesHold, Coded};
 ghost use Rattle.exact_triangle.specs.View.{ViewSized};
@@ -16,7 +16,7 @@ use exact_triangle::view::View;
 use geometry::aabb::Aabb;
 use mesh_plain::boxes;
 use nearest_hit::summary;
-use nearest_hit::summary::Outcome;
+use nearest_hit::summary::{NearestSoFar, Outcome};
 use tree::mesh as triangle_mesh;
 
 // What a triangle is reached at, without its normal.
@@ -63,6 +63,26 @@ fn looked_at(
     boxes::triangle_touches(codes, bounds, vertices, triangles, index)
 }
 
+// The note of a triangle that is hit or refuses. It is called, so that the loop over the triangles is small: that loop is then compiled
+// once for each way in which a triangle is looked at.
+#[inline(never)]
+fn note_found(notes: &mut NearestSoFar, index: u32, reach: Reach)
+    ensures { says_nearest_so_far notes.new ≡ note_of (says_nearest_so_far notes.old) index (says_reach reach) }
+{
+    *notes = summary::note(*notes, index, reach);
+}
+
+// One more triangle's note: a miss changes nothing.
+#[tactic(auto, unfolding(nearest_hit::specs::Summary::note_of))]
+fn note_reach(notes: &mut NearestSoFar, index: u32, reach: Reach)
+    ensures { says_nearest_so_far notes.new ≡ note_of (says_nearest_so_far notes.old) index (says_reach reach) }
+{
+    if let Ok(None) = reach {
+        return;
+    }
+    note_found(notes, index, reach);
+}
+
 // The winner of all triangles in one pass, without its normal. An index past the vertices ends it with 5, whatever was found before it.
 pub fn winner_of(
     line: View,
@@ -85,7 +105,7 @@ pub fn winner_of(
         }
         if looked_at(within, codes, bounds, vertices, triangles, i) {
             let reach = reach_of(line, vertices, triangles, i);
-            notes = summary::note(notes, i as u32, reach);
+            note_reach(&mut notes, i as u32, reach);
         }
     }
     summary::winner(notes)

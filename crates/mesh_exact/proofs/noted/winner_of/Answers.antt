@@ -59,7 +59,7 @@ loop-i-preserved c =
       | then-looked_at w ↦ (
         fitting,
         λ r h. noting_goes own _ _ c.loop-i.i (c.loop-i.invariant.1 r h) c.loop-i-test.true _ (w.reach_of-reach.ensures r h.casts)
-            (says_nearest_so_far c.if-looked_at.notes) (ap says_nearest_so_far w.notes-is ∙ w.note-notes.ensures),
+            (says_nearest_so_far c.if-looked_at.notes) (ap says_nearest_so_far w.notes-is ∙ w.note_reach.ensures),
       )
       | else-looked_at w ↦ (
         fitting,
